@@ -1,0 +1,5 @@
+pub mod Decimals
+pub mod Ids
+pub mod Outside
+pub mod OwnerNames
+pub mod Prefixes

@@ -1,0 +1,6 @@
+pub mod Decimal
+pub mod Id
+pub mod Outside
+pub mod OwnerName
+pub mod Prefix
+pub mod RefusalText
