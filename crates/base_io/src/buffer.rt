@@ -1,0 +1,116 @@
+//! Bytes that were taken from a source and are not used yet.
+
+ghost use Rattle.std.specs.Prelude.{◌≡◌, ◌<◌, ◌≤◌, ◌+◌, ◌^◌, [], ◌++◌, OnOk, OnErr, length, drop};
+ghost use Rattle.base_names.specs.Outside.{Reads, Rose};
+
+use crate::limits::LINE_LIMIT;
+use crate::source::{Got, Source};
+use base_names::NoMemory;
+use std::alloc::Global;
+use std::marker::Model;
+
+/// A read asks for at least so many bytes.
+const READ_LEN: usize = 4_096;
+
+/// Room for a line of the greatest length with a carriage return, and for a read.
+const USUAL_LEN: usize = LINE_LIMIT + 1 + READ_LEN;
+
+/// A part of its bytes is held: those that were read and not skipped yet.
+#[derive(Debug, Drop)]
+pub struct Buffer {
+    bytes: Vec<u8>,
+    start: usize,
+    end: usize,
+}
+
+impl Model for Buffer {
+    ghost use Rattle.std.specs.Prelude.{◌≤◌, ◌-◌, vec_len, slice_range};
+    ghost use Rattle.base_io.specs.Buffered.{Buffered};
+
+    ghost Value = { Buffered };
+
+    ghost view = { λ b. record { held = slice_range b.bytes.items b.start b.end; room = vec_len b.bytes - b.end } };
+
+    ghost invariant = { λ b. (b.start ≤ b.end) × (b.end ≤ vec_len b.bytes) };
+}
+
+impl Buffer {
+    ghost use Rattle.base_io.specs.Buffered.{Fills};
+
+    /// Nothing is held, and nothing allocated.
+    pub fn new(alloc: Global) -> Buffer
+        ensures { result.held ≡ [] }
+    {
+        Buffer {
+            bytes: Vec::new(alloc),
+            start: 0,
+            end: 0,
+        }
+    }
+
+    /// What is held.
+    pub fn held(&self) -> &[u8]
+        ensures { result.now ≡ self.now.held }
+    {
+        &self.bytes[self.start..self.end]
+    }
+
+    /// Holds the first n bytes no longer.
+    pub fn skip(&mut self, n: usize)
+        requires { n ≤ length self.old.held }
+        ensures { self.new.held ≡ drop n self.old.held }
+    {
+        self.start += n;
+    }
+
+    /// Gives back the memory that a long block took.
+    pub fn shrink(&mut self)
+        ensures { self.new.held ≡ self.old.held }
+    {
+        let held = self.end - self.start;
+        if self.bytes.len() <= USUAL_LEN || held > USUAL_LEN {
+            return;
+        }
+        self.bytes.copy_within(self.start..self.end, 0);
+        self.start = 0;
+        self.end = held;
+        self.bytes.truncate(USUAL_LEN);
+        self.bytes.shrink_to(USUAL_LEN);
+    }
+
+    /// Makes room for a read. In all `whole` bytes may come to be held.
+    fn make_room(&mut self, whole: usize) -> Result<(), NoMemory>
+        requires fits { length self.old.held ≤ whole }
+        requires small { whole < 2 ^ 33 }
+        ensures held { self.new.held ≡ self.old.held }
+        ensures room { OnOk result (0 < self.new.room) }
+    {
+        if self.bytes.len() - self.end >= READ_LEN {
+            return Ok(());
+        }
+        self.bytes.copy_within(self.start..self.end, 0);
+        self.end -= self.start;
+        self.start = 0;
+        if self.bytes.len() - self.end < READ_LEN {
+            self.bytes.resize((whole + READ_LEN).max(USUAL_LEN), 0)?;
+        }
+        Ok(())
+    }
+
+    /// Reads once, to the end of what is held. In all `whole` bytes may come to be held.
+    pub fn read_more<S: Source>(&mut self, source: &mut S, whole: usize) -> Result<Got, NoMemory>
+        requires fits { length self.old.held ≤ whole }
+        requires small { whole < 2 ^ 33 }
+        ensures same { S.name source.new ≡ S.name source.old }
+        ensures fills { Fills result self.old.held self.new.held (S.left source.old) (S.left source.new) }
+        ensures later { S.faults source.old ≤ S.faults source.new }
+        ensures failed { result ≡ Ok Got.Failed → Rose (S.faults source.old) (S.faults source.new) }
+    {
+        self.make_room(whole)?;
+        let got = source.read(&mut self.bytes[self.end..]);
+        if let Got::Bytes(n) = got {
+            self.end += n;
+        }
+        Ok(got)
+    }
+}

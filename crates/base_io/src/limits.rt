@@ -1,0 +1,7 @@
+//! How much of an input is read.
+
+/// The greatest length of a line, without its line feed and a carriage return before that.
+pub const LINE_LIMIT: usize = 65_536;
+
+/// An input that reaches so many bytes is too long.
+pub const INPUT_LIMIT: u64 = 1 << 40;

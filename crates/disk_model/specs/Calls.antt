@@ -1,0 +1,15 @@
+-- The calls of a disk, with their arguments and answers.
+use Rattle.std.specs.Prelude.{ℕ, ◌≡◌, List, [], ◌∷◌, ◌++◌, Option, Some, IfSome}
+use Rattle.disk_model.specs.declared.answer.DiskLen.{DiskLen}
+use Rattle.disk_model.specs.declared.answer.DiskDone.{DiskDone}
+
+-- A read has its place and its length.
+pub data DiskCall : Type 0 where
+  LenCall : (answer : DiskLen) → DiskCall
+  ReadCall : (at len : ℕ) (answer : DiskDone) → DiskCall
+  WriteCall : (at : ℕ) (bytes : List ℕ) (answer : DiskDone) → DiskCall
+  SyncCall : (answer : DiskDone) → DiskCall
+
+-- The call was added at the end: a disk that tells its calls now told them before. It may stop telling.
+abbrev pub AddsCall : Option (List DiskCall) → Option (List DiskCall) → DiskCall → Type 0
+AddsCall old new call = IfSome new (λ now. (before : List DiskCall) × (old ≡ Some before) × (now ≡ before ++ call ∷ []))
