@@ -1,0 +1,5 @@
+pub mod BlockLens
+pub mod FrameSteps
+pub mod LineCuts
+pub mod SmallModels
+pub mod Standing

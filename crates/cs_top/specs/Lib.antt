@@ -1,0 +1,10 @@
+pub mod CommandLine
+pub mod Framing
+pub mod Line
+pub mod Order
+pub mod Run
+pub mod Session
+pub mod SmallModel
+pub mod Step
+pub mod Talk
+pub mod Transcript

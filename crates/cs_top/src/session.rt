@@ -1,0 +1,190 @@
+//! A session: one owner, one model, and the batches that were submitted.
+
+ghost use Rattle.std.specs.Prelude.{◌≡◌, ◌++◌, OnOk, OnErr, is_some, None};
+ghost use Rattle.base_names.specs.Id.{id_text};
+ghost use Rattle.base_names.specs.RefusalText.{refusal_text};
+ghost use Rattle.cs_top.specs.Session.{line_of, has_submitted};
+ghost use Rattle.cs_top.specs.SmallModel.{variable_of};
+
+use crate::order::Order;
+use crate::small_model::{SmallModel, variable_of};
+use base_names::{
+    BatchId, FaultWord, NoMemory, Owner, OwnerLimit, Refusal, refusal_text, write_id,
+};
+use std::alloc::Global;
+use std::marker::Model;
+
+/// What a batch has come to.
+#[derive(Clone, Copy, Debug, PartialEq, Eq)]
+enum BatchStatus {
+    Submitted,
+}
+
+/// A session, which contracts see as its owner, its model and the count of its batches.
+#[derive(Debug, Drop)]
+pub struct Session {
+    owner: Owner,
+    model: Option<SmallModel>,
+    /// The batches by number, from 1 on.
+    batches: Vec<BatchStatus>,
+}
+
+impl Model for Session {
+    ghost use Rattle.std.specs.Prelude.{length, ◌^◌, ◌<◌};
+    ghost use Rattle.cs_top.specs.Session.{Session as State};
+
+    ghost Value = { State };
+
+    ghost view = { λ session. record { owner = session.owner; model = session.model; batches = length session.batches.items } };
+
+    ghost invariant = { λ session. length session.batches.items < 2 ^ 32 };
+}
+
+impl Session {
+    ghost use Rattle.cs_top.specs.Session.{answer_to, read_answer, tag_answer, submit_answer, status_answer};
+
+    /// A session of this owner that has read nothing. It allocates nothing.
+    pub fn new(alloc: Global, owner: Owner) -> Session
+        ensures { result ≡ record { owner = owner; model = None; batches = 0 } }
+    {
+        Session {
+            owner,
+            model: None,
+            batches: Vec::new(alloc),
+        }
+    }
+
+    /// Answers an order with its block: `reply` becomes the answer's line. Want of memory leaves the
+    /// session as it was.
+    #[tactic(auto, unfolding(crate::specs::Session::answer_to))]
+    pub fn answer(
+        &mut self,
+        alloc: Global,
+        order: Order,
+        block: &[u8],
+        reply: &mut Vec<u8>,
+    ) -> Result<(), NoMemory>
+        ensures text { OnOk result (reply.new.items ≡ (answer_to self.old order block.now).text) }
+        ensures session { OnOk result (self.new ≡ (answer_to self.old order block.now).session) }
+        ensures err { OnErr result (self.new ≡ self.old) }
+    {
+        match order {
+            Order::Bye => says(reply, b"BYE"),
+            Order::Read(_) => self.read(alloc, block, reply),
+            Order::SetTag(variable) => self.set_tag(alloc, variable, reply),
+            Order::Submit => self.submit(alloc, reply),
+            Order::Status(id) => self.tell_status(alloc, &id, reply),
+            Order::Unknown => refuses(alloc, Refusal::LINE, reply),
+        }
+    }
+
+    fn read(&mut self, alloc: Global, block: &[u8], reply: &mut Vec<u8>) -> Result<(), NoMemory>
+        ensures text { OnOk result (reply.new.items ≡ (read_answer self.old (variable_of block.now)).text) }
+        ensures session { OnOk result (self.new ≡ (read_answer self.old (variable_of block.now)).session) }
+        ensures err { OnErr result (self.new ≡ self.old) }
+    {
+        let Some(variable) = variable_of(block) else {
+            return refuses(alloc, Refusal::MODEL(1, 1, FaultWord::Unsupported), reply);
+        };
+        says(reply, b"OK")?;
+        self.model = Some(SmallModel::new(variable));
+        Ok(())
+    }
+
+    fn set_tag(&mut self, alloc: Global, variable: u8, reply: &mut Vec<u8>) -> Result<(), NoMemory>
+        ensures text { OnOk result (reply.new.items ≡ (tag_answer self.old self.old.model variable).text) }
+        ensures session { OnOk result (self.new ≡ (tag_answer self.old self.old.model variable).session) }
+        ensures err { OnErr result (self.new ≡ self.old) }
+    {
+        match self.model {
+            Some(model) if model.variable == variable => {
+                says(reply, b"OK")?;
+                self.model = Some(SmallModel {
+                    variable,
+                    is_tagged: true,
+                });
+                Ok(())
+            }
+            _ => refuses(alloc, Refusal::LINE, reply),
+        }
+    }
+
+    fn submit(&mut self, alloc: Global, reply: &mut Vec<u8>) -> Result<(), NoMemory>
+        ensures text { OnOk result (reply.new.items ≡ (submit_answer self.old self.old.model).text) }
+        ensures session { OnOk result (self.new ≡ (submit_answer self.old self.old.model).session) }
+        ensures err { OnErr result (self.new ≡ self.old) }
+    {
+        let is_ready = self.model.is_some_and(|model| model.is_tagged);
+        if !is_ready {
+            return refuses(alloc, Refusal::LINE, reply);
+        }
+        let last = self.batches.len() as u32;
+        if last == u32::MAX {
+            return refuses(alloc, Refusal::OWNERFULL(OwnerLimit::Numbers), reply);
+        }
+        self.batches.reserve(1)?;
+        let id = BatchId {
+            owner: self.owner,
+            number: last + 1,
+        };
+        says_of(alloc, b"BATCH ", &id, b"", reply)?;
+        self.batches.push_reserved(BatchStatus::Submitted);
+        Ok(())
+    }
+
+    fn tell_status(&self, alloc: Global, id: &BatchId, reply: &mut Vec<u8>) -> Result<(), NoMemory>
+        ensures { OnOk result (reply.new.items ≡ (status_answer self.now id.now).text) }
+    {
+        match self.status_of(id) {
+            Some(BatchStatus::Submitted) => says_of(alloc, b"BSTATUS ", id, b" 2", reply),
+            None => refuses(alloc, Refusal::BATCH, reply),
+        }
+    }
+
+    /// The status of a batch that was submitted in this session; None of any other.
+    fn status_of(&self, id: &BatchId) -> Option<BatchStatus>
+        ensures { is_some result ≡ has_submitted self.now id.now }
+    {
+        if id.owner != self.owner || id.number == 0 {
+            return None;
+        }
+        self.batches.get(id.number as usize - 1).copied()
+    }
+}
+
+/// Makes `reply` a line with this text.
+fn says(reply: &mut Vec<u8>, text: &[u8]) -> Result<(), NoMemory>
+    ensures { OnOk result (reply.new.items ≡ line_of text.now) }
+{
+    reply.clear();
+    reply.extend_from_slice(text)?;
+    reply.push(b'\n')?;
+    Ok(())
+}
+
+/// Makes `reply` a line that speaks of a batch.
+fn says_of(
+    alloc: Global,
+    before: &[u8],
+    id: &BatchId,
+    after: &[u8],
+    reply: &mut Vec<u8>,
+) -> Result<(), NoMemory>
+    ensures { OnOk result (reply.new.items ≡ line_of (before.now ++ id_text id.now ++ after.now)) }
+{
+    let id = write_id(alloc, id)?;
+    reply.clear();
+    reply.extend_from_slice(before)?;
+    reply.extend_from_slice(id.as_bytes())?;
+    reply.extend_from_slice(after)?;
+    reply.push(b'\n')?;
+    Ok(())
+}
+
+/// Makes `reply` the line of a refusal.
+fn refuses(alloc: Global, refusal: Refusal, reply: &mut Vec<u8>) -> Result<(), NoMemory>
+    ensures { OnOk result (reply.new.items ≡ line_of (refusal_text refusal)) }
+{
+    let text = refusal_text(alloc, &refusal)?;
+    says(reply, text.as_bytes())
+}

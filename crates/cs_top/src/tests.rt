@@ -1,0 +1,241 @@
+//! Runs over memory: what whole sessions write, and where reads and writes fail.
+
+use crate::run;
+use base_io::{Got, MemSink, MemSource, Source};
+use base_names::NoMemory;
+use disk_model::MemDisk;
+use std::alloc::Global;
+use std::process::Abort;
+use std::test::Fail;
+
+const ROW_UP_TO_THE_TAG: &[u8] =
+    b"READ 38\nMinimize\n x\nSubject To\n c: x >= 1\nEnd\nSETVTAG x x\n";
+
+/// What one run left behind.
+#[derive(Debug, Drop)]
+struct Ran {
+    status: u8,
+    output: Vec<u8>,
+    errors: Vec<u8>,
+}
+
+/// Runs the program with these words.
+fn run_over<S: Source>(
+    alloc: Global,
+    words: &[&str],
+    source: &mut S,
+    failing: &[u64],
+) -> Result<Ran, NoMemory> {
+    let mut all = Vec::new(alloc);
+    for word in words {
+        all.push(String::from_str(alloc, word)?)?;
+    }
+    let mut sink = MemSink::new(alloc, Vec::from_slice(alloc, failing)?);
+    let mut errs = MemSink::new(alloc, Vec::new(alloc));
+    let mut disk = MemDisk::new(alloc);
+    let status = run(alloc, &all, source, &mut sink, &mut errs, &mut disk);
+    Ok(Ran {
+        status,
+        output: Vec::from_slice(alloc, sink.bytes().as_slice())?,
+        errors: Vec::from_slice(alloc, errs.bytes().as_slice())?,
+    })
+}
+
+/// Runs a session of ada over this input.
+fn session(alloc: Global, parts: &[&[u8]]) -> Result<Ran, NoMemory> {
+    let mut input = Vec::new(alloc);
+    for part in parts {
+        input.extend_from_slice(part)?;
+    }
+    run_over(
+        alloc,
+        &["cs_main", "session", "ada"],
+        &mut MemSource::new(input, Vec::new(alloc)),
+        &[],
+    )
+}
+
+/// What stands on the sink after all was answered.
+fn assert_answers(rt: &impl Abort, ran: &Ran, output: &[u8]) {
+    assert_eq!(rt; ran.output.as_slice(), output);
+    assert_eq!(rt; ran.errors.as_slice(), b"".as_slice());
+    assert_eq!(rt; ran.status, 0);
+}
+
+#[test]
+fn answers_a_session(rt: HostRuntime) -> Result<(), Fail> {
+    let rows: &[(&[u8], &[u8])] = &[
+        (
+            b"BATCH\nBSTATUS ada.1\nBYE\n",
+            b"OK\nOK\nBATCH ada.1\nBSTATUS ada.1 2\nBYE\n",
+        ),
+        (
+            b"READ 3\nabcBATCH\n",
+            b"OK\nOK\nERR 4 MODEL 1 1 UNSUPPORTED\nBATCH ada.1\n",
+        ),
+        (b"FOO\n", b"OK\nOK\nERR 2 LINE\n"),
+        (
+            b"BATCH\nBATCH\nBSTATUS bob.1\n",
+            b"OK\nOK\nBATCH ada.1\nBATCH ada.2\nERR 13 BATCH\n",
+        ),
+        // A model takes the place of the one before, and has no tag.
+        (
+            b"READ 0039\nMinimize\n y\nSubject To\n y: y >= 07\nEnd\nBATCH\nSETVTAG x x\nSETVTAG y x\nBATCH\n",
+            b"OK\nOK\nOK\nERR 2 LINE\nERR 2 LINE\nOK\nBATCH ada.1\n",
+        ),
+        // Words, blanks and line ends; a batch's ID has one spelling.
+        (
+            b"\n \t\n BYE x\nbye\nBSTATUS ada.01\nBSTATUS ada.0\n\tBYE \t\r\nFOO\n",
+            b"OK\nOK\nERR 2 LINE\nERR 2 LINE\nERR 2 LINE\nERR 2 LINE\nERR 2 LINE\nERR 13 BATCH\nBYE\n",
+        ),
+        // A last line without an end counts, and a block that is cut short does not.
+        (b"READ 0", b"OK\nOK\nERR 4 MODEL 1 1 UNSUPPORTED\n"),
+        (
+            b"BATCH\nREAD 10000\nREAD 5\nabcd",
+            b"OK\nOK\nBATCH ada.1\nERR 2 LINE\n",
+        ),
+        (b"BYE\r", b"OK\nOK\nERR 2 LINE\n"),
+    ];
+    for (input, output) in rows {
+        assert_answers(
+            &rt,
+            &session(rt.alloc(), &[ROW_UP_TO_THE_TAG, input])?,
+            output,
+        );
+    }
+    Ok(())
+}
+
+#[test]
+fn refuses_words(rt: HostRuntime) -> Result<(), Fail> {
+    let rows: &[&[&str]] = &[
+        &[],
+        &["cs_main"],
+        &["cs_main", "session"],
+        &["cs_main", "session", "Ada"],
+        &["cs_main", "session", ""],
+        &["cs_main", "session", "ada", "--admin"],
+        &["cs_main", "solve", "ada"],
+    ];
+    for words in rows {
+        let mut source = MemSource::new(b"BYE\n".to_vec(rt.alloc())?, Vec::new(rt.alloc()));
+        let ran = run_over(rt.alloc(), words, &mut source, &[])?;
+        assert_eq!(rt; ran.status, 2);
+        assert_eq!(rt; ran.output.as_slice(), b"".as_slice());
+        assert_eq!(rt; ran.errors.as_slice(), b"words refused\n".as_slice());
+    }
+    Ok(())
+}
+
+#[test]
+fn tells_a_line_that_is_too_long(rt: HostRuntime) -> Result<(), Fail> {
+    let alloc = rt.alloc();
+    let longest = vec![in alloc; b'x'; 65_536]?;
+    let ran = session(
+        alloc,
+        &[
+            longest.as_slice(),
+            b"\r\nFOO\n",
+            longest.as_slice(),
+            b"x\nFOO\n",
+        ],
+    )?;
+    assert_eq!(rt; ran.status, 7);
+    assert_eq!(rt;
+        ran.output.as_slice(),
+        b"ERR 2 LINE\nERR 2 LINE\n".as_slice()
+    );
+    assert_eq!(rt; ran.errors.as_slice(), b"input too long\n".as_slice());
+    Ok(())
+}
+
+/// Gives a byte at a time, and fails at one call.
+#[derive(Debug, Drop)]
+struct Drops {
+    bytes: Vec<u8>,
+    at: usize,
+    calls: u64,
+    failing: u64,
+    failed: u64,
+}
+
+impl Source for Drops {
+    ghost use Rattle.std.specs.Prelude.{None};
+
+    ghost name = { λ _. 0 };
+
+    ghost left = { λ _. None };
+
+    ghost faults = { λ d. d.failed };
+
+    fn read(&mut self, buf: &mut [u8]) -> Got {
+        self.calls = self.calls.saturating_add(1);
+        if self.calls == self.failing {
+            self.failed = self.failed.saturating_add(1);
+            return Got::Failed;
+        }
+        if buf.is_empty() || self.at >= self.bytes.len() {
+            return Got::Bytes(0);
+        }
+        buf[0] = self.bytes[self.at];
+        self.at += 1;
+        Got::Bytes(1)
+    }
+}
+
+#[test]
+fn tells_each_read_that_fails(rt: HostRuntime) -> Result<(), Fail> {
+    let input = b"FOO\nREAD 3\nabc\nFOO";
+    // How many bytes have come when each answer is due, and what is written by then.
+    let due: &[(u64, &[u8])] = &[
+        (4, b"ERR 2 LINE\n"),
+        (14, b"ERR 2 LINE\nERR 4 MODEL 1 1 UNSUPPORTED\n"),
+        (15, b"ERR 2 LINE\nERR 4 MODEL 1 1 UNSUPPORTED\nERR 2 LINE\n"),
+    ];
+    for failing in 1..20 {
+        let mut source = Drops {
+            bytes: input.to_vec(rt.alloc())?,
+            at: 0,
+            calls: 0,
+            failing,
+            failed: 0,
+        };
+        let ran = run_over(rt.alloc(), &["cs_main", "session", "ada"], &mut source, &[])?;
+        let mut output: &[u8] = b"";
+        for (came, text) in due {
+            if *came < failing {
+                output = text;
+            }
+        }
+        assert_eq!(rt; ran.status, 3);
+        assert_eq!(rt; ran.output.as_slice(), output);
+        assert_eq!(rt; ran.errors.as_slice(), b"read fault\n".as_slice());
+    }
+    Ok(())
+}
+
+#[test]
+fn tells_each_write_that_fails(rt: HostRuntime) -> Result<(), Fail> {
+    let rows: &[(u64, &[u8])] = &[
+        (1, b""),
+        (2, b"OK\n"),
+        (3, b"OK\nOK\n"),
+        (4, b"OK\nOK\nBATCH ada.1\n"),
+        (5, b"OK\nOK\nBATCH ada.1\nBSTATUS ada.1 2\n"),
+    ];
+    for (failing, front) in rows {
+        let mut input = ROW_UP_TO_THE_TAG.to_vec(rt.alloc())?;
+        input.extend_from_slice(b"BATCH\nBSTATUS ada.1\nBYE\n")?;
+        let mut source = MemSource::new(input, Vec::new(rt.alloc()));
+        let ran = run_over(
+            rt.alloc(),
+            &["cs_main", "session", "ada"],
+            &mut source,
+            &[*failing],
+        )?;
+        assert_eq!(rt; ran.status, 4);
+        assert_eq!(rt; ran.output.as_slice(), *front);
+        assert_eq!(rt; ran.errors.as_slice(), b"write fault\n".as_slice());
+    }
+    Ok(())
+}
