@@ -1,0 +1,10 @@
+pub mod Comparison
+pub mod Divisors
+pub mod Field
+pub mod Fitting
+pub mod Integers
+pub mod Kept
+pub mod OddPair
+pub mod Ordered
+pub mod Results
+pub mod Seen

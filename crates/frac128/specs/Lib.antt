@@ -1,0 +1,7 @@
+pub mod Checked
+pub mod Fits
+pub mod Fraction
+pub mod Lowest
+pub mod Numbers
+pub mod Order
+pub mod Parts
