@@ -1,0 +1,4 @@
+pub mod Lawful
+pub mod Names
+pub mod Params
+pub mod Size

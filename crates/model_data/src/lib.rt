@@ -1,0 +1,26 @@
+//! The types of a model, of what a solve finds, and of batches.
+//!
+//! They are plain data that other crates read, change, solve and keep. What a lawful model is stands in
+//! `specs/Lawful.antt`, the ranges of parameters in `specs/Params.antt`, and the count of [`size`] in `specs/Size.antt`.
+//! Each type that is not `Copy` has a call `copy`, which gives an equal value.
+#![tactic(auto)]
+
+mod batch;
+mod limits;
+mod model;
+mod params;
+mod sizes;
+mod solution;
+
+pub use batch::{AttemptOf, BatchBody, BatchLine, BatchRecord, BatchResult, BatchRow};
+pub use limits::{
+    BOUND_SIZE, MAX_DETAIL, MAX_ITERATIONS, MAX_NAME_LEN, MAX_NODES, MAX_PRIORITY, MAX_ROWS,
+    MAX_SIZE, MAX_TAG_LEN, MAX_TERMS, MAX_VARS, MAX_WORK,
+};
+pub use model::{Direction, Model, Row, Sense, Term, Var, VarKind};
+pub use params::Params;
+pub use sizes::size;
+pub use solution::{Cert, CertNode, NodeEvent, Outcome, Point, SolEvent, Weight, Weights, WideAt};
+
+#[cfg(test)]
+mod tests;
