@@ -1,5 +1,5 @@
 //! Texts with their outcomes, worked out by hand from the rules in `specs/`.
-use crate::{NumFault, read, write};
+use crate::{NumFault, read, write, write_onto, write_size_onto};
 use frac128::Frac;
 use std::test::Fail;
 
@@ -162,5 +162,16 @@ fn written_texts(rt: HostRuntime) -> Result<(), Fail> {
         assert_eq!(rt; written.as_bytes(), text.as_bytes());
         assert_eq!(rt; read(written.as_bytes()), Ok(value));
     }
+    Ok(())
+}
+
+#[test]
+fn texts_added_to_bytes(rt: HostRuntime) -> Result<(), Fail> {
+    let value = Frac::make(-10, 4).ok_or("fits")?;
+    let mut out = b"x = ".to_vec(rt.alloc())?;
+    write_onto(&mut out, &value)?;
+    out.extend_from_slice(b" - ")?;
+    write_size_onto(&mut out, &value)?;
+    assert_eq!(rt; out.as_slice(), b"x = -5/2 - 5/2".as_slice());
     Ok(())
 }
