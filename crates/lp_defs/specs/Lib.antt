@@ -1,0 +1,14 @@
+pub mod Canonical
+pub mod Draft
+pub mod Grammar
+pub mod Items
+pub mod Kinds
+pub mod Objective
+pub mod Quantity
+pub mod Reading
+pub mod Rows
+pub mod Sections
+pub mod Stage
+pub mod Symbols
+pub mod Text
+pub mod Tokens

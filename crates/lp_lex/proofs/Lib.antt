@@ -1,0 +1,4 @@
+pub mod Gaps
+pub mod ItemsAhead
+pub mod ReadSoFar
+pub mod RunsAhead

@@ -1,0 +1,118 @@
+//! The runs of a text, found one by one.
+ghost use Rattle.std.specs.Prelude.{◌≡◌, ◌+◌, ◌^◌, ◌<◌, ◌⊎◌, [], IfNone, IfSome, drop, length, take_while};
+ghost use Rattle.std.specs.List.{prefix_len};
+ghost use Rattle.lp_defs.specs.Tokens.{behind_byte, is_run_byte, is_white};
+ghost use Rattle.lp_lex.specs.Runs.{run_of};
+ghost use Rattle.lp_lex.specs.Ahead.{IsGap, IsNext, IsWithin, along, end_ahead, runs_ahead};
+
+use lp_defs::Place;
+
+/// A longest run of bytes that are neither white space nor a comment's.
+#[derive(Clone, Copy)]
+pub(crate) struct Run<'a> {
+    pub(crate) place: Place,
+    pub(crate) bytes: &'a [u8],
+}
+
+/// The place behind a run of so many bytes, which has no line feed.
+pub(crate) fn along(place: Place, len: usize) -> Place
+    requires column_fits { place.column + len < 2 ^ 32 }
+    requires offset_fits { place.offset + len < 2 ^ 32 }
+    ensures { result ≡ along place len }
+{
+    Place {
+        column: place.column + len as u32,
+        offset: place.offset + len as u32,
+        ..place
+    }
+}
+
+/// The next run at or behind a place that is in no run and in no comment.
+pub(crate) fn next_run(text: &[u8], place: Place) -> Option<Run<'_>>
+    requires { IsWithin text.now place }
+    ensures none { IfNone result (runs_ahead text.now place ≡ []) }
+    ensures some { IfSome result (λ run. IsNext text.now place (run_of run)) }
+{
+    let place = gap_end(text, place);
+    let bytes = front_run(&text[place.offset as usize..]);
+    if bytes.is_empty() {
+        return None;
+    }
+    Some(Run { place, bytes })
+}
+
+/// The place of the text's end, by the bytes ahead.
+pub(crate) fn text_end(text: &[u8], place: Place) -> Place
+    requires { IsWithin text.now place }
+    ensures { result ≡ end_ahead text.now place }
+{
+    let mut place = place;
+    while (place.offset as usize) < text.len() {
+        place = behind_byte(place, text[place.offset as usize]);
+    }
+    place
+}
+
+/// The place behind white space and comments.
+fn gap_end(text: &[u8], place: Place) -> Place
+    requires { IsWithin text.now place }
+    ensures gap { IsGap text.now place result }
+    ensures stop { (drop result.offset text.now ≡ []) ⊎ (0 < prefix_len is_run_byte (drop result.offset text.now)) }
+{
+    let mut place = place;
+    let mut in_comment = false;
+    while (place.offset as usize) < text.len() {
+        let byte = text[place.offset as usize];
+        if in_comment {
+            in_comment = byte != b'\n';
+        } else if byte == b'\\' {
+            in_comment = true;
+        } else if !is_white(byte) {
+            break;
+        }
+        place = behind_byte(place, byte);
+    }
+    place
+}
+
+/// The place behind the byte.
+fn behind_byte(place: Place, byte: u8) -> Place
+    requires line_fits { place.line + 1 < 2 ^ 32 }
+    requires column_fits { place.column + 1 < 2 ^ 32 }
+    requires offset_fits { place.offset + 1 < 2 ^ 32 }
+    ensures { result ≡ behind_byte place byte }
+{
+    if byte == b'\n' {
+        Place {
+            line: place.line + 1,
+            column: 1,
+            offset: place.offset + 1,
+        }
+    } else {
+        along(place, 1)
+    }
+}
+
+/// The bytes of a run at the front.
+fn front_run(bytes: &[u8]) -> &[u8]
+    ensures { result.now ≡ take_while is_run_byte bytes.now }
+{
+    let mut len = 0;
+    while len < bytes.len() && is_run_byte(bytes[len]) {
+        len += 1;
+    }
+    &bytes[..len]
+}
+
+fn is_run_byte(byte: u8) -> bool
+    ensures { result ≡ is_run_byte byte }
+{
+    !is_white(byte) && byte != b'\\'
+}
+
+/// Space, tab, line feed and carriage return.
+fn is_white(byte: u8) -> bool
+    ensures { result ≡ is_white byte }
+{
+    matches!(byte, b' ' | b'\t' | b'\n' | b'\r')
+}
