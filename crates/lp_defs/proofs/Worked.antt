@@ -247,7 +247,11 @@ kinds_at_hand = refl
 
 -- Comments, a bound of two sides, and a variable with an ordinary name.
 a_plan : AreRead (
-    spelled Maximize (record (plain (codes "x") (pos 1)) { lower = Some (whole (pos 0)); upper = None; kind = Integer } ∷ record (plain (codes "y") (pos 2)) { lower = None; upper = Some (whole (pos 5)); kind = Continuous } ∷ record (plain (codes "Constant") (pos 3)) { lower = Some (whole (pos 1)); upper = Some (whole (pos 1)); kind = Continuous } ∷ [])
+    spelled Maximize
+    (record (plain (codes "x") (pos 1)) { lower = Some (whole (pos 0)); upper = None; kind = Integer }
+    ∷ record (plain (codes "y") (pos 2)) { lower = None; upper = Some (whole (pos 5)); kind = Continuous }
+    ∷ record (plain (codes "Constant") (pos 3)) { lower = Some (whole (pos 1)); upper = Some (whole (pos 1)); kind = Continuous }
+    ∷ [])
     (row (codes "c0") (term 0 (pos 1) ∷ term 1 (pos 1) ∷ []) Less (pos 4) ∷ [])
     (codes "\\ Model plan\n\\ LP format - for model browsing. Use MPS format to capture full model detail.\nMaximize\n  x + 2 y + 3 Constant\nSubject To\n c0: x + y <= 4\nBounds\n -infinity <= y <= 5\n Constant = 1\nGenerals\n x\nEnd\n")
     ∷ spelled Minimize (plain (codes "x") (pos 1) ∷ plain (codes "x+y") (pos 0) ∷ [])

@@ -149,3 +149,13 @@ canonical_lines m =
 -- the one text that is written for a model
 abbrev pub canonical_text : Model → List ℕ
 canonical_text m = lines (canonical_lines m)
+
+-- What the text tells
+
+-- the variable without its tag
+abbrev pub untagged_var : Var → Var
+untagged_var v = record v { tag = None }
+
+-- the model without its tags: all that its text tells of it
+abbrev pub untagged : Model → Model
+untagged m = record m { vars = map untagged_var m.vars }

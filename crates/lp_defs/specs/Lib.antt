@@ -2,6 +2,7 @@ pub mod Canonical
 pub mod Draft
 pub mod Grammar
 pub mod Items
+pub mod Kept
 pub mod Kinds
 pub mod Objective
 pub mod Quantity
