@@ -1,0 +1,12 @@
+pub mod AddedTerm
+pub mod Changed
+pub mod Coefficients
+pub mod Grown
+pub mod Known
+pub mod ObjectiveOf
+pub mod Outcomes
+pub mod Pairs
+pub mod ReadSoFar
+pub mod Rising
+pub mod Tables
+pub mod TermPlaces

@@ -1,0 +1,36 @@
+use Rattle.std.proofs.Common.{refl, ◌+◌, ap, sym, ◌∙◌, List, length, nat_le, Ok}
+use Rattle.model_data.specs.Lawful.{term_count}
+use Rattle.model_data.specs.declared.limits.TheConstants.{MAX_TERMS}
+use Rattle.model_data.specs.declared.model.Term.{Term}
+use Rattle.lp_defs.specs.Draft.{OpenRow, Unfinished, coefficient_in, with_coefficient}
+use Rattle.lp_parse.specs.Meaning.{summand_of}
+use Rattle.lp_parse.proofs.AddedTerm.{term_refused, term_told}
+use Rattle.lp_parse.proofs.draft.Draft.add_to_row.Goals as goal
+
+pub returns-then-not-has_room_for_term : goal.returns-then-not-has_room_for_term
+returns-then-not-has_room_for_term c =
+    let u = c.args.self.now in
+    let read =
+    c.coefficient_in-so_far.ensures
+    ∙ ap (coefficient_in c.var_place-var.result) (c.deref.ensures.value ∙ ap (λ (u : Unfinished). u.row.terms) c.self.view_is) in
+    let row : OpenRow = record { title = u.row.title; terms = with_coefficient c.var_place-var.result c.in_ok-sum.sum c.mention.new.self.row.terms } in
+    let terms = ap (λ (row : OpenRow). with_coefficient c.var_place-var.result c.in_ok-sum.sum row.terms) c.in_ok-mention.ensures.row in
+    rw c.fault.ensures (
+    term_refused (summand_of c.args.term.now) u {row = row} c.var_place-var.ensures read c.in_ok-sum.ensures c.in_ok-mention.ensures.model refl terms
+    (sym c.has_room_for_term.ensures ∙ c.if-not-has_room_for_term.true))
+
+pub returns : goal.returns
+returns c =
+    let u = c.args.self.now in
+    let read =
+    c.coefficient_in-so_far.ensures
+    ∙ ap (coefficient_in c.var_place-var.result) (c.deref.ensures.value ∙ ap (λ (u : Unfinished). u.row.terms) c.self.view_is) in
+    let shown = c.self-2.view_is in
+    let row : OpenRow = record { title = c.self-2.inside.title.items; terms = c.set_coefficient.new.terms.items } in
+    let title = ap (λ (u : Unfinished). u.row.title) shown ∙ ap (λ (row : OpenRow). row.title) c.in_ok-mention.ensures.row in
+    let set = c.in_ok-set_coefficient.ensures.ok ∙ ap (λ (u : Unfinished). with_coefficient c.var_place-var.result c.in_ok-sum.sum u.row.terms) shown in
+    let terms = set ∙ ap (λ (row : OpenRow). with_coefficient c.var_place-var.result c.in_ok-sum.sum row.terms) c.in_ok-mention.ensures.row in
+    let room = ap (λ (l : List Term). nat_le (term_count c.mention.new.self.model + length l) MAX_TERMS) set
+    ∙ sym c.has_room_for_term.ensures ∙ c.if-not-has_room_for_term.false in
+    term_told (summand_of c.args.term.now) u {row = row} c.var_place-var.ensures read c.in_ok-sum.ensures c.in_ok-mention.ensures.model title terms room
+    ∙ ap (λ (u : Unfinished). Ok (record { model = u.model; row = row })) (sym shown)

@@ -1,0 +1,20 @@
+use Rattle.std.proofs.Common.{rules, ◌≡◌, ◌+◌, ap, subst, ◌∙◌, ℕ, List, [], ◌∷◌, ◌++◌, length}
+use Rattle.model_data.specs.declared.model.Row.{Row}
+use Rattle.lp_parse.specs.Draft.{IsSound, with_name}
+use Rattle.lp_parse.proofs.Grown.{sound_row}
+use Rattle.lp_parse.proofs.draft.Draft.close_row.Goals as goal
+
+pub invariant_of-self-2 : goal.invariant_of-self-2
+invariant_of-self-2 c =
+    let draft = c.self.inside in
+    let r : Row = record { name = c.of.result; sense = c.args.sense; rhs = c.args.rhs; terms = c.of-2.result } in
+    let title : c.as_slice.result.now ≡ r.name = search rules in
+    let count : length draft.terms.items ≡ c.len.result = search rules in
+    let rows = c.push_reserved.new.self.items in
+    let left = c.replace-terms.new.dest.items in
+    subst (λ (n : ℕ). IsSound draft.vars.items draft.var_names rows c.add.new.self (draft.closed_terms + n) left) count
+    (sound_row c.self.invariant r rows c.add.new.self left
+    (c.push_reserved.ensures.items ∙ ap (λ (l : List Row). l ++ r ∷ []) c.reserve.ensures.items)
+    (c.in_ok-add.ensures.ok ∙ ap (with_name draft.row_names) title)
+    (search rules)
+    (search rules))

@@ -1,0 +1,4 @@
+pub mod Draft
+pub mod Meaning
+pub mod Outcome
+pub mod Terms

@@ -1,0 +1,350 @@
+//! The model that a part of a text has told so far.
+ghost use Rattle.std.specs.Prelude.{◌≡◌, ◌+◌, [], IfOk, OnOk, length, nat_le};
+ghost use Rattle.base_names.specs.declared.refusal.FaultWord.TheVariants.{Number as bad_number, Size};
+ghost use Rattle.lp_defs.specs.Draft as defs;
+ghost use Rattle.lp_defs.specs.Objective as objective;
+ghost use Rattle.lp_defs.specs.Quantity.{added, with_bound};
+ghost use Rattle.lp_defs.specs.Rows as rows;
+ghost use Rattle.lp_defs.specs.Symbols.{or_fault};
+ghost use Rattle.model_data.specs.Lawful.{term_count};
+ghost use Rattle.model_data.specs.declared.limits.TheConstants.{MAX_TERMS};
+ghost use Rattle.lp_parse.specs.Meaning.{limit_of, spot_of, summand_of};
+ghost use Rattle.lp_parse.specs.Outcome.{Meets};
+
+use crate::names::Names;
+use crate::quantity::{Limit, unit};
+use crate::symbol::Spot;
+use crate::terms::{coefficient_in, count_with, set_coefficient};
+use base_names::{FaultWord, Name, NoMemory, OrMemory, Seq, write_decimal};
+use frac128::Frac;
+use lp_defs::ModelFault;
+use model_data::{Direction, MAX_ROWS, MAX_TERMS, MAX_VARS, Row, Sense, Term, Var, VarKind};
+use std::alloc::Global;
+use std::marker::Model;
+
+/// A model, and a row that isn't whole.
+#[derive(Drop)]
+pub(crate) struct Draft {
+    direction: Direction,
+    constant: Frac,
+    vars: Vec<Var>,
+    var_names: Names,
+    rows: Vec<Row>,
+    row_names: Names,
+    /// The terms of the whole rows.
+    closed_terms: usize,
+    /// The name of the row that isn't whole.
+    title: Vec<u8>,
+    /// Its terms so far.
+    terms: Vec<Term>,
+}
+
+/// A term of the objective or of a row.
+#[derive(Clone, Copy, Debug)]
+pub(crate) struct Summand<'a> {
+    /// Where its number stands, or its name where it has none.
+    pub(crate) number_spot: Spot,
+    pub(crate) coefficient: Frac,
+    pub(crate) name_spot: Spot,
+    pub(crate) name: &'a [u8],
+}
+
+impl<'a> Summand<'a> {
+    /// A term without a number.
+    pub(crate) fn lone(negative: bool, spot: Spot, name: &'a [u8]) -> Summand<'a>
+        ensures { summand_of result ≡ objective.lone_name negative (spot_of spot) name.now }
+    {
+        Summand {
+            number_spot: spot,
+            coefficient: unit(negative),
+            name_spot: spot,
+            name,
+        }
+    }
+
+    /// A term with a number.
+    pub(crate) fn numbered(
+        number_spot: Spot,
+        coefficient: Frac,
+        name_spot: Spot,
+        name: &'a [u8],
+    ) -> Summand<'a>
+        ensures { summand_of result ≡ objective.numbered_name (spot_of number_spot) coefficient (spot_of name_spot) name.now }
+    {
+        Summand {
+            number_spot,
+            coefficient,
+            name_spot,
+            name,
+        }
+    }
+}
+
+impl Model for Draft {
+    ghost use Rattle.lp_defs.specs.Draft.{Unfinished};
+    ghost use Rattle.lp_parse.specs.Draft.{IsSound};
+
+    ghost Value = { Unfinished };
+
+    ghost view = { λ d. record {
+      model = record { direction = d.direction; constant = d.constant; vars = d.vars.items; rows = d.rows.items };
+      row = record { title = d.title.items; terms = d.terms.items };
+    } };
+
+    ghost invariant = { λ d. IsSound d.vars.items d.var_names d.rows.items d.row_names d.closed_terms d.terms.items };
+}
+
+impl Draft {
+    /// Nothing but which value of the objective is the best. It takes no memory.
+    pub(crate) fn blank(alloc: Global, direction: Direction) -> Draft
+        ensures { result ≡ defs.new_row [] (defs.blank direction) }
+    {
+        Draft {
+            direction,
+            constant: Frac::zero(),
+            vars: Vec::new(alloc),
+            var_names: Names::new(alloc),
+            rows: Vec::new(alloc),
+            row_names: Names::new(alloc),
+            closed_terms: 0,
+            title: Vec::new(alloc),
+            terms: Vec::new(alloc),
+        }
+    }
+
+    /// The model of the whole rows.
+    pub(crate) fn into_model(self) -> model_data::Model
+        ensures { result ≡ self.model }
+    {
+        model_data::Model {
+            direction: self.direction,
+            constant: self.constant,
+            vars: Seq::of(self.vars),
+            rows: Seq::of(self.rows),
+        }
+    }
+
+    /// Makes sure that the model has a variable of the name, which stands at the spot.
+    pub(crate) fn mention(
+        &mut self,
+        alloc: Global,
+        spot: Spot,
+        name: &[u8],
+    ) -> Result<(), OrMemory<ModelFault>>
+        ensures model { Meets result (λ _. self.new.model) (or_fault (spot_of spot) Size (defs.mention name.now self.old.model)) }
+        ensures row { OnOk result (self.new.row ≡ self.old.row) }
+    {
+        if self.var_names.place(name).is_some() {
+            return Ok(());
+        }
+        if self.vars.len() >= MAX_VARS {
+            return Err(spot.fault(FaultWord::Size));
+        }
+        let var = new_var(alloc, name)?;
+        self.vars.reserve(1)?;
+        self.var_names.add(alloc, name)?;
+        self.vars.push_reserved(var);
+        Ok(())
+    }
+
+    /// Adds a number to the objective's constant.
+    pub(crate) fn add_to_constant(
+        &mut self,
+        spot: Spot,
+        number: Frac,
+    ) -> Result<(), OrMemory<ModelFault>>
+        ensures model { Meets result (λ _. self.new.model) (objective.add_to_constant (spot_of spot) number self.old.model) }
+        ensures row { OnOk result (self.new.row ≡ self.old.row) }
+    {
+        self.constant = added(self.constant, number, spot)?;
+        Ok(())
+    }
+
+    /// Adds a term to the objective.
+    pub(crate) fn add_to_objective(
+        &mut self,
+        alloc: Global,
+        term: &Summand<'_>,
+    ) -> Result<(), OrMemory<ModelFault>>
+        ensures { Meets result (λ _. self.new.model) (objective.add_to_objective (summand_of term.now) self.old.model) }
+    {
+        let so_far = self.objective_of(term.name);
+        let sum = added(so_far, term.coefficient, term.number_spot)?;
+        self.mention(alloc, term.name_spot, term.name)?;
+        self.set_objective(term.name, sum);
+        Ok(())
+    }
+
+    /// The objective's coefficient of the variable, 0 where there is none.
+    fn objective_of(&self, name: &[u8]) -> Frac
+        ensures { result ≡ defs.objective_of_vars name.now self.now.model.vars }
+    {
+        match self.var_names.place(name) {
+            Some(place) => self.vars[place].obj,
+            None => Frac::zero(),
+        }
+    }
+
+    fn set_objective(&mut self, name: &[u8], sum: Frac)
+        ensures { self.new ≡ record self.old { model = defs.change_var name.now (λ v. record v { obj = sum }) self.old.model } }
+    {
+        if let Some(place) = self.var_names.place(name) {
+            self.vars[place].obj = sum;
+        }
+    }
+
+    /// Makes the variable at most, at least or equal to the limit. The other bound stays.
+    pub(crate) fn bound(&mut self, name: &[u8], sense: Sense, limit: &Limit)
+        ensures { self.new ≡ record self.old { model = defs.change_var name.now (with_bound sense (limit_of limit.now)) self.old.model } }
+    {
+        if let Some(place) = self.var_names.place(name) {
+            set_bound(&mut self.vars[place], sense, limit);
+        }
+    }
+
+    /// Takes both bounds of the variable away.
+    pub(crate) fn free(&mut self, name: &[u8])
+        ensures { self.new ≡ record self.old { model = defs.change_var name.now defs.freed self.old.model } }
+    {
+        if let Some(place) = self.var_names.place(name) {
+            let var = &mut self.vars[place];
+            var.lower = None;
+            var.upper = None;
+        }
+    }
+
+    pub(crate) fn set_kind(&mut self, name: &[u8], kind: VarKind)
+        ensures { self.new ≡ record self.old { model = defs.change_var name.now (defs.with_kind kind) self.old.model } }
+    {
+        if let Some(place) = self.var_names.place(name) {
+            self.vars[place].kind = kind;
+        }
+    }
+
+    /// Begins a row of the name at the spot.
+    pub(crate) fn open_row(
+        &mut self,
+        alloc: Global,
+        spot: Spot,
+        title: &[u8],
+    ) -> Result<(), OrMemory<ModelFault>>
+        ensures { Meets result (λ _. self.new) (rows.open_row (spot_of spot) title.now self.old.model) }
+    {
+        if self.row_names.place(title).is_some() {
+            return Err(spot.fault(FaultWord::DoubledName));
+        }
+        if self.rows.len() >= MAX_ROWS {
+            return Err(spot.fault(FaultWord::Size));
+        }
+        self.title = title.to_vec(alloc)?;
+        self.terms = Vec::new(alloc);
+        Ok(())
+    }
+
+    /// Begins a row without a label at the spot.
+    pub(crate) fn open_unlabelled_row(
+        &mut self,
+        alloc: Global,
+        spot: Spot,
+    ) -> Result<(), OrMemory<ModelFault>>
+        ensures { Meets result (λ _. self.new) (rows.open_row (spot_of spot) (defs.default_title self.old.model) self.old.model) }
+    {
+        let mut title = b"R".to_vec(alloc)?;
+        title.extend_from_slice(write_decimal(alloc, self.rows.len() as u64)?.as_bytes())?;
+        self.open_row(alloc, spot, title.as_slice())
+    }
+
+    /// Adds a term to the row that isn't whole.
+    pub(crate) fn add_to_row(
+        &mut self,
+        alloc: Global,
+        term: &Summand<'_>,
+    ) -> Result<(), OrMemory<ModelFault>>
+        ensures { Meets result (λ _. self.new) (rows.add_to_row (summand_of term.now) self.old) }
+    {
+        let var = self.var_place(term.name);
+        let so_far = coefficient_in(&self.terms, var);
+        let sum = added(so_far, term.coefficient, term.number_spot)?;
+        self.mention(alloc, term.name_spot, term.name)?;
+        if !self.has_room_for_term(var, &sum) {
+            return Err(term.name_spot.fault(FaultWord::Size));
+        }
+        set_coefficient(&mut self.terms, var, sum)?;
+        Ok(())
+    }
+
+    /// The place of the variable, or that of the next new one.
+    fn var_place(&self, name: &[u8]) -> u32
+        ensures { result ≡ defs.var_place name.now self.now.model }
+    {
+        self.var_names.place(name).unwrap_or(self.vars.len()) as u32
+    }
+
+    /// Whether the terms are within their limit with this coefficient of the variable.
+    fn has_room_for_term(&self, var: u32, coef: &Frac) -> bool
+        ensures { result ≡ nat_le (term_count self.now.model + length (defs.with_coefficient var coef.now self.now.row.terms)) MAX_TERMS }
+    {
+        self.closed_terms + count_with(&self.terms, var, coef) <= MAX_TERMS
+    }
+
+    /// Ends the row that isn't whole with its comparison and its right side.
+    pub(crate) fn close_row(
+        &mut self,
+        alloc: Global,
+        sense: Sense,
+        rhs: Frac,
+    ) -> Result<(), NoMemory>
+        ensures { OnOk result (self.new.model ≡ defs.close_row sense rhs self.old) }
+    {
+        self.rows.reserve(1)?;
+        self.row_names.add(alloc, self.title.as_slice())?;
+        let title = std::mem::replace(&mut self.title, Vec::new(alloc));
+        let terms = std::mem::replace(&mut self.terms, Vec::new(alloc));
+        self.closed_terms += terms.len();
+        self.rows.push_reserved(Row {
+            name: Name::of(title),
+            sense,
+            rhs,
+            terms: Seq::of(terms),
+        });
+        Ok(())
+    }
+}
+
+/// At least 0, with no term in the objective.
+fn new_var(alloc: Global, name: &[u8]) -> Result<Var, NoMemory>
+    ensures { IfOk result (λ v. v ≡ defs.new_var name.now) }
+{
+    Ok(Var {
+        name: Name::of(name.to_vec(alloc)?),
+        lower: Some(Frac::zero()),
+        upper: None,
+        obj: Frac::zero(),
+        kind: VarKind::Continuous,
+        tag: None,
+    })
+}
+
+/// Makes the variable at most, at least or equal to the limit. The other bound stays.
+fn set_bound(var: &mut Var, sense: Sense, limit: &Limit)
+    ensures { var.new ≡ with_bound sense (limit_of limit.now) var.old }
+{
+    match sense {
+        Sense::Less => var.upper = limit.bound(),
+        Sense::Greater => var.lower = limit.bound(),
+        Sense::Equal => {
+            var.lower = limit.bound();
+            var.upper = limit.bound();
+        }
+    }
+}
+
+/// The sum with a number that stands at the spot.
+fn added(so_far: Frac, number: Frac, spot: Spot) -> Result<Frac, OrMemory<ModelFault>>
+    ensures { Meets result (λ x. x) (or_fault (spot_of spot) bad_number (added so_far number)) }
+{
+    match so_far.add(&number) {
+        Some(sum) => Ok(sum),
+        None => Err(spot.fault(FaultWord::Number)),
+    }
+}

@@ -1,0 +1,165 @@
+//! A text read token by token.
+ghost use Rattle.std.specs.Prelude.{◌≡◌, ◌^◌, ◌-◌, ◌<◌, ◌≤◌, Err, IfOk, Ok, length, slice_range};
+ghost use Rattle.base_names.specs.declared.memory.OrMemory.TheVariants.{Fault};
+ghost use Rattle.lp_defs.specs.declared.fault.ModelFault.{ModelFault};
+ghost use Rattle.lp_defs.specs.Reading as defs;
+ghost use Rattle.lp_defs.specs.Symbols as seen;
+ghost use Rattle.lp_defs.specs.Text.{reading};
+ghost use Rattle.lp_parse.specs.Meaning.{spot_of, stage_of, symbol_of};
+ghost use Rattle.lp_parse.specs.Outcome.{Meets};
+
+use crate::draft::Draft;
+use crate::objective::{
+    after_objective_label, after_objective_number, after_objective_sign, after_objective_term,
+    after_objective_title, after_objective_word, after_second_word, after_start,
+    settle_objective_title,
+};
+use crate::rows::{
+    after_comparison, after_constraints, after_row, after_row_label, after_row_number,
+    after_row_sign, after_row_term, after_row_title, after_side_sign, settle_row_title,
+};
+use crate::sections::{
+    after_bound, after_bound_end, after_bound_middle, after_bound_name, after_bound_number,
+    after_bound_side, after_bound_side_sign, after_bound_sign, after_kind,
+};
+use crate::stage::Stage;
+use crate::symbol::{Spot, Symbol, fault_of_run, symbol_of};
+use base_names::{FaultWord, OrMemory};
+use lp_defs::{ModelFault, Token};
+use lp_lex::Lexer;
+use model_data::{Direction, Model};
+use std::alloc::Global;
+
+/// The model that the text spells, or the first place at which it stops to be a model's text.
+///
+/// The text has fewer than 2^32 - 1 bytes.
+pub fn parse(alloc: Global, text: &[u8]) -> Result<Model, OrMemory<ModelFault>>
+    requires { length text.now < 2 ^ 32 - 1 }
+    ensures ok { IfOk result (λ m. reading text.now ≡ Ok m) }
+    ensures fault { (fault : ModelFault) → result ≡ Err (Fault fault) → reading text.now ≡ Err fault }
+{
+    let mut lexer = Lexer::new(text);
+    let mut draft = Draft::blank(alloc, Direction::Minimize);
+    let mut stage = Stage::Start;
+    loop {
+        match lexer.next_token() {
+            Ok(Some(token)) => match after_token(alloc, &stage, &mut draft, text, &token) {
+                Ok(next) => stage = next,
+                Err(fault) => return Err(fault),
+            },
+            Ok(None) => return at_the_end(alloc, &stage, draft, Spot::of_place(lexer.end())),
+            Err(fault) => return Err(stopped(alloc, &stage, &mut draft, fault_of_run(fault))),
+        }
+    }
+}
+
+/// The stage behind a token of the text.
+fn after_token<'a>(
+    alloc: Global,
+    stage: &Stage<'a>,
+    draft: &mut Draft,
+    text: &'a [u8],
+    token: &Token,
+) -> Result<Stage<'a>, OrMemory<ModelFault>>
+    requires forward { token.now.start ≤ token.now.end }
+    requires in_text { token.now.end ≤ length text.now }
+    ensures { Meets result (λ next. stage_of next draft.new) (defs.after (stage_of stage.now draft.old)
+        (record { line = token.now.line; column = token.now.column })
+        (seen.symbol_of token.now.kind (slice_range text.now token.now.start token.now.end))) }
+{
+    let bytes = &text[token.start as usize..token.end as usize];
+    let spot = Spot::of_token(token);
+    after(alloc, stage, draft, spot, &symbol_of(&token.kind, bytes))
+}
+
+/// The stage behind what the grammar sees of a token.
+fn after<'a>(
+    alloc: Global,
+    stage: &Stage<'a>,
+    draft: &mut Draft,
+    spot: Spot,
+    symbol: &Symbol<'a>,
+) -> Result<Stage<'a>, OrMemory<ModelFault>>
+    ensures { Meets result (λ next. stage_of next draft.new) (defs.after (stage_of stage.now draft.old) (spot_of spot) (symbol_of symbol.now)) }
+{
+    match stage {
+        Stage::Start => after_start(alloc, draft, spot, symbol),
+        Stage::ObjectiveStart => after_objective_word(alloc, draft, spot, symbol),
+        Stage::ObjectiveTitle(at, title) => after_objective_title(
+            alloc, *at, *title, draft, spot, symbol,
+        ),
+        Stage::ObjectiveFirst => after_objective_label(alloc, draft, spot, symbol),
+        Stage::ObjectiveSign(negative) => after_objective_sign(
+            alloc, *negative, draft, spot, symbol,
+        ),
+        Stage::ObjectiveNumber(at, x) => after_objective_number(alloc, *at, x, draft, spot, symbol),
+        Stage::ObjectiveNext => after_objective_term(draft, spot, symbol),
+        Stage::SecondWord(wanted) => after_second_word(*wanted, draft, spot, symbol),
+        Stage::RowsStart => after_constraints(alloc, draft, spot, symbol),
+        Stage::RowsNext => after_row(alloc, draft, spot, symbol),
+        Stage::RowTitle(at, title) => after_row_title(alloc, *at, *title, draft, spot, symbol),
+        Stage::RowFirst => after_row_label(alloc, draft, spot, symbol),
+        Stage::RowSign(first, negative) => after_row_sign(
+            alloc, *first, *negative, draft, spot, symbol,
+        ),
+        Stage::RowNumber(first, at, x) => after_row_number(
+            alloc, *first, *at, x, draft, spot, symbol,
+        ),
+        Stage::RowNext => after_row_term(draft, spot, symbol),
+        Stage::RowSide(sense) => after_comparison(alloc, *sense, draft, spot, symbol),
+        Stage::RowSideSign(negative, sense) => after_side_sign(
+            alloc, *negative, *sense, draft, spot, symbol,
+        ),
+        Stage::Bounds => after_bound(alloc, draft, spot, symbol),
+        Stage::BoundName(name) => after_bound_name(*name, draft, spot, symbol),
+        Stage::BoundSide(sense, name) => after_bound_side(*sense, *name, draft, spot, symbol),
+        Stage::BoundSideSign(negative, sense, name) => after_bound_side_sign(
+            *negative, *sense, *name, draft, spot, symbol,
+        ),
+        Stage::BoundSign(negative) => after_bound_sign(*negative, draft, spot, symbol),
+        Stage::BoundNumber(at, limit) => after_bound_number(*at, limit, draft, spot, symbol),
+        Stage::BoundMiddle(limit, sense) => after_bound_middle(
+            alloc, limit, *sense, draft, spot, symbol,
+        ),
+        Stage::BoundEnd(sense, name) => after_bound_end(alloc, *sense, *name, draft, spot, symbol),
+        Stage::Kinds(kind) => after_kind(alloc, *kind, draft, spot, symbol),
+        Stage::Ended => Err(spot.fault(FaultWord::AfterEnd)),
+    }
+}
+
+/// Where no further token follows, this fault comes, unless what waited for the next token has an earlier one.
+fn stopped(
+    alloc: Global,
+    stage: &Stage<'_>,
+    draft: &mut Draft,
+    fault: ModelFault,
+) -> OrMemory<ModelFault>
+    ensures { (first : ModelFault) → result ≡ Fault first → defs.stopped (stage_of stage.now draft.old) fault ≡ first }
+{
+    let settled = match stage {
+        Stage::ObjectiveTitle(spot, title) => settle_objective_title(alloc, *spot, *title, draft),
+        Stage::ObjectiveNumber(spot, number) => draft.add_to_constant(*spot, *number),
+        Stage::RowTitle(spot, title) => settle_row_title(alloc, *spot, *title, draft),
+        _ => Ok(()),
+    };
+    match settled {
+        Ok(()) => OrMemory::Fault(fault),
+        Err(earlier) => earlier,
+    }
+}
+
+/// A text may end behind `end` alone.
+fn at_the_end(
+    alloc: Global,
+    stage: &Stage<'_>,
+    mut draft: Draft,
+    end: Spot,
+) -> Result<Model, OrMemory<ModelFault>>
+    ensures { Meets result (λ m. m) (defs.at_the_end (stage_of stage.now draft) (spot_of end)) }
+{
+    if let Stage::Ended = stage {
+        return Ok(draft.into_model());
+    }
+    let fault = end.model_fault(FaultWord::NoSection);
+    Err(stopped(alloc, stage, &mut draft, fault))
+}

@@ -1,0 +1,277 @@
+//! Rows. Each function reads one token, and tells what stage is behind it.
+ghost use Rattle.std.specs.Prelude.{◌≡◌};
+ghost use Rattle.lp_defs.specs.Rows as defs;
+ghost use Rattle.lp_parse.specs.Meaning.{quantity_of, spot_of, stage_of, summand_of, symbol_of};
+ghost use Rattle.lp_parse.specs.Outcome.{Meets};
+
+use crate::draft::{Draft, Summand};
+use crate::stage::Stage;
+use crate::symbol::{Quantity, Spot, Symbol};
+use base_names::{FaultWord, OrMemory};
+use frac128::Frac;
+use lp_defs::{ModelFault, SectionWord};
+use model_data::{Sense, VarKind};
+use std::alloc::Global;
+
+/// A section word behind the rows, a whole bound or a list of names: a further section, or `end`.
+pub(crate) fn after_rows<'a>(
+    draft: &mut Draft,
+    spot: Spot,
+    word: SectionWord,
+) -> Result<Stage<'a>, OrMemory<ModelFault>>
+    ensures { Meets result (λ stage. stage_of stage draft.new) (defs.after_rows (spot_of spot) word draft.old.model) }
+{
+    match word {
+        SectionWord::Bounds => Ok(Stage::Bounds),
+        SectionWord::General => Ok(Stage::Kinds(VarKind::Integer)),
+        SectionWord::Binary => Ok(Stage::Kinds(VarKind::Binary)),
+        SectionWord::End => Ok(Stage::Ended),
+        _ => Err(spot.fault(FaultWord::Word)),
+    }
+}
+
+fn row_term<'a>(
+    alloc: Global,
+    draft: &mut Draft,
+    term: &Summand<'_>,
+) -> Result<Stage<'a>, OrMemory<ModelFault>>
+    ensures { Meets result (λ stage. stage_of stage draft.new) (defs.row_term (summand_of term.now) draft.old) }
+{
+    draft.add_to_row(alloc, term)?;
+    Ok(Stage::RowNext)
+}
+
+/// A number of the first term or of a later one, with the sign in front of it.
+fn row_amount<'a>(
+    first: bool,
+    negative: bool,
+    draft: &mut Draft,
+    spot: Spot,
+    quantity: &Quantity,
+) -> Result<Stage<'a>, OrMemory<ModelFault>>
+    ensures { Meets result (λ stage. stage_of stage draft.new) (defs.row_amount first negative (spot_of spot) (quantity_of quantity.now) draft.old) }
+{
+    let value = quantity.signed_value(negative, spot)?;
+    Ok(Stage::RowNumber(first, spot, value))
+}
+
+/// A sign stands before a number or a name.
+pub(crate) fn after_row_sign<'a>(
+    alloc: Global,
+    first: bool,
+    negative: bool,
+    draft: &mut Draft,
+    spot: Spot,
+    symbol: &Symbol<'_>,
+) -> Result<Stage<'a>, OrMemory<ModelFault>>
+    ensures { Meets result (λ stage. stage_of stage draft.new) (defs.after_row_sign first negative (spot_of spot) (symbol_of symbol.now) draft.old) }
+{
+    match symbol {
+        Symbol::Number { quantity, .. } => row_amount(first, negative, draft, spot, quantity),
+        Symbol::Name(name) => row_term(alloc, draft, &Summand::lone(negative, spot, *name)),
+        _ => Err(spot.fault(FaultWord::Word)),
+    }
+}
+
+/// A number on the left side stands before a name. One that begins a row and stands alone isn't supported.
+pub(crate) fn after_row_number<'a>(
+    alloc: Global,
+    first: bool,
+    number_spot: Spot,
+    number: &Frac,
+    draft: &mut Draft,
+    spot: Spot,
+    symbol: &Symbol<'_>,
+) -> Result<Stage<'a>, OrMemory<ModelFault>>
+    ensures { Meets result (λ stage. stage_of stage draft.new)
+        (defs.after_row_number first (spot_of number_spot) number.now (spot_of spot) (symbol_of symbol.now) draft.old) }
+{
+    match symbol {
+        Symbol::Name(name) => {
+            let term = Summand::numbered(number_spot, *number, spot, *name);
+            row_term(alloc, draft, &term)
+        }
+        Symbol::Comparison(_) if first => Err(spot.fault(FaultWord::Unsupported)),
+        _ => Err(spot.fault(FaultWord::Word)),
+    }
+}
+
+/// Behind a term: the comparison, or a further term, which begins with a sign or with a number that has one.
+pub(crate) fn after_row_term<'a>(
+    draft: &mut Draft,
+    spot: Spot,
+    symbol: &Symbol<'_>,
+) -> Result<Stage<'a>, OrMemory<ModelFault>>
+    ensures { Meets result (λ stage. stage_of stage draft.new) (defs.after_row_term (spot_of spot) (symbol_of symbol.now) draft.old) }
+{
+    match symbol {
+        Symbol::Sign { negative } => Ok(Stage::RowSign(false, *negative)),
+        Symbol::Number {
+            signed: true,
+            quantity,
+        } => row_amount(false, false, draft, spot, quantity),
+        Symbol::Comparison(sense) => Ok(Stage::RowSide(*sense)),
+        _ => Err(spot.fault(FaultWord::Word)),
+    }
+}
+
+/// Behind a label: the first term, which needs no sign, or the comparison, since a row may have no terms.
+pub(crate) fn after_row_label<'a>(
+    alloc: Global,
+    draft: &mut Draft,
+    spot: Spot,
+    symbol: &Symbol<'_>,
+) -> Result<Stage<'a>, OrMemory<ModelFault>>
+    ensures { Meets result (λ stage. stage_of stage draft.new) (defs.after_row_label (spot_of spot) (symbol_of symbol.now) draft.old) }
+{
+    match symbol {
+        Symbol::Sign { negative } => Ok(Stage::RowSign(true, *negative)),
+        Symbol::Number { quantity, .. } => row_amount(true, false, draft, spot, quantity),
+        Symbol::Name(name) => row_term(alloc, draft, &Summand::lone(false, spot, *name)),
+        Symbol::Comparison(sense) => Ok(Stage::RowSide(*sense)),
+        _ => Err(spot.fault(FaultWord::Word)),
+    }
+}
+
+/// A row with a label.
+fn labelled_row<'a>(
+    alloc: Global,
+    draft: &mut Draft,
+    spot: Spot,
+    label: &[u8],
+) -> Result<Stage<'a>, OrMemory<ModelFault>>
+    ensures { Meets result (λ stage. stage_of stage draft.new) (defs.labelled_row (spot_of spot) label.now draft.old.model) }
+{
+    draft.open_row(alloc, spot, label)?;
+    Ok(Stage::RowFirst)
+}
+
+/// A row without a label, whose first token this is.
+fn unlabelled_row<'a>(
+    alloc: Global,
+    draft: &mut Draft,
+    spot: Spot,
+    symbol: &Symbol<'_>,
+) -> Result<Stage<'a>, OrMemory<ModelFault>>
+    ensures { Meets result (λ stage. stage_of stage draft.new) (defs.unlabelled_row (spot_of spot) (symbol_of symbol.now) draft.old.model) }
+{
+    draft.open_unlabelled_row(alloc, spot)?;
+    after_row_label(alloc, draft, spot, symbol)
+}
+
+/// Behind a right side: a further row, a section or `end`. A row without a label and terms can't begin here.
+pub(crate) fn after_row<'a>(
+    alloc: Global,
+    draft: &mut Draft,
+    spot: Spot,
+    symbol: &Symbol<'a>,
+) -> Result<Stage<'a>, OrMemory<ModelFault>>
+    ensures { Meets result (λ stage. stage_of stage draft.new) (defs.after_row (spot_of spot) (symbol_of symbol.now) draft.old.model) }
+{
+    match symbol {
+        Symbol::Label(label) => labelled_row(alloc, draft, spot, *label),
+        Symbol::Name(name) => Ok(Stage::RowTitle(spot, *name)),
+        Symbol::Sign { .. } | Symbol::Number { .. } => unlabelled_row(alloc, draft, spot, symbol),
+        Symbol::Comparison(_) => Err(spot.fault(FaultWord::Unsupported)),
+        Symbol::Keyword(word) => after_rows(draft, spot, *word),
+        Symbol::Colon => Err(spot.fault(FaultWord::Word)),
+    }
+}
+
+/// Behind the constraints word a row may begin with its comparison too.
+pub(crate) fn after_constraints<'a>(
+    alloc: Global,
+    draft: &mut Draft,
+    spot: Spot,
+    symbol: &Symbol<'a>,
+) -> Result<Stage<'a>, OrMemory<ModelFault>>
+    ensures { Meets result (λ stage. stage_of stage draft.new) (defs.after_constraints (spot_of spot) (symbol_of symbol.now) draft.old.model) }
+{
+    match symbol {
+        Symbol::Comparison(_) => unlabelled_row(alloc, draft, spot, symbol),
+        _ => after_row(alloc, draft, spot, symbol),
+    }
+}
+
+/// A name at the head of a row that no colon follows is its first term's, and the row has no label.
+pub(crate) fn settle_row_title(
+    alloc: Global,
+    title_spot: Spot,
+    title: &[u8],
+    draft: &mut Draft,
+) -> Result<(), OrMemory<ModelFault>>
+    ensures { Meets result (λ _. draft.new) (defs.settle_row_title (spot_of title_spot) title.now draft.old.model) }
+{
+    draft.open_unlabelled_row(alloc, title_spot)?;
+    draft.add_to_row(alloc, &Summand::lone(false, title_spot, title))
+}
+
+pub(crate) fn after_row_title<'a>(
+    alloc: Global,
+    title_spot: Spot,
+    title: &[u8],
+    draft: &mut Draft,
+    spot: Spot,
+    symbol: &Symbol<'_>,
+) -> Result<Stage<'a>, OrMemory<ModelFault>>
+    ensures { Meets result (λ stage. stage_of stage draft.new)
+        (defs.after_row_title (spot_of title_spot) title.now (spot_of spot) (symbol_of symbol.now) draft.old.model) }
+{
+    if let Symbol::Colon = symbol {
+        return labelled_row(alloc, draft, title_spot, title);
+    }
+    settle_row_title(alloc, title_spot, title, draft)?;
+    after_row_term(draft, spot, symbol)
+}
+
+/// The right side, with the sign in front of it.
+fn right_side<'a>(
+    alloc: Global,
+    negative: bool,
+    sense: Sense,
+    draft: &mut Draft,
+    spot: Spot,
+    quantity: &Quantity,
+) -> Result<Stage<'a>, OrMemory<ModelFault>>
+    ensures { Meets result (λ stage. stage_of stage draft.new) (defs.right_side negative sense (spot_of spot) (quantity_of quantity.now) draft.old) }
+{
+    let value = quantity.signed_value(negative, spot)?;
+    draft.close_row(alloc, sense, value)?;
+    Ok(Stage::RowsNext)
+}
+
+/// A sign stands before the right side's number.
+pub(crate) fn after_side_sign<'a>(
+    alloc: Global,
+    negative: bool,
+    sense: Sense,
+    draft: &mut Draft,
+    spot: Spot,
+    symbol: &Symbol<'_>,
+) -> Result<Stage<'a>, OrMemory<ModelFault>>
+    ensures { Meets result (λ stage. stage_of stage draft.new) (defs.after_side_sign negative sense (spot_of spot) (symbol_of symbol.now) draft.old) }
+{
+    match symbol {
+        Symbol::Number { quantity, .. } => right_side(
+            alloc, negative, sense, draft, spot, quantity,
+        ),
+        _ => Err(spot.fault(FaultWord::Word)),
+    }
+}
+
+/// Behind the comparison: one sign, or the number.
+pub(crate) fn after_comparison<'a>(
+    alloc: Global,
+    sense: Sense,
+    draft: &mut Draft,
+    spot: Spot,
+    symbol: &Symbol<'_>,
+) -> Result<Stage<'a>, OrMemory<ModelFault>>
+    ensures { Meets result (λ stage. stage_of stage draft.new) (defs.after_comparison sense (spot_of spot) (symbol_of symbol.now) draft.old) }
+{
+    match symbol {
+        Symbol::Sign { negative } => Ok(Stage::RowSideSign(*negative, sense)),
+        Symbol::Number { quantity, .. } => right_side(alloc, false, sense, draft, spot, quantity),
+        _ => Err(spot.fault(FaultWord::Word)),
+    }
+}

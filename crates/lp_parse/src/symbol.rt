@@ -1,0 +1,144 @@
+//! What the grammar sees of a token, and where.
+ghost use Rattle.std.specs.Prelude.{◌≡◌, codes};
+ghost use Rattle.lp_defs.specs.Kinds.{begins_with, front_of};
+ghost use Rattle.lp_defs.specs.Symbols as seen;
+ghost use Rattle.lp_parse.specs.Meaning.{spot_of, symbol_of};
+
+use base_names::{FaultWord, OrMemory};
+use frac128::Frac;
+use lp_defs::{LexFault, ModelFault, Place, SectionWord, Token, TokenKind};
+use model_data::Sense;
+
+/// Where a token begins.
+#[derive(Clone, Copy, Debug, PartialEq, Eq)]
+pub(crate) struct Spot {
+    pub(crate) line: u32,
+    pub(crate) column: u32,
+}
+
+/// A number, as far as it can be told by itself.
+#[derive(Clone, Copy, Debug, PartialEq, Eq)]
+pub(crate) enum Quantity {
+    Finite(Frac),
+    TooWide { negative: bool, huge: bool },
+    Infinite { negative: bool },
+}
+
+/// A token.
+#[derive(Clone, Copy, Debug)]
+pub(crate) enum Symbol<'a> {
+    Sign { negative: bool },
+    Colon,
+    Comparison(Sense),
+    /// `signed` says that the token begins with a sign.
+    Number { signed: bool, quantity: Quantity },
+    Keyword(SectionWord),
+    /// The name before the colon.
+    Label(&'a [u8]),
+    Name(&'a [u8]),
+}
+
+impl Spot {
+    pub(crate) fn of_token(token: &Token) -> Spot
+        ensures { spot_of result ≡ record { line = token.now.line; column = token.now.column } }
+    {
+        Spot {
+            line: token.line,
+            column: token.column,
+        }
+    }
+
+    pub(crate) fn of_place(place: Place) -> Spot
+        ensures { spot_of result ≡ seen.spot_of place }
+    {
+        Spot {
+            line: place.line,
+            column: place.column,
+        }
+    }
+
+    pub(crate) fn model_fault(self, fault: FaultWord) -> ModelFault
+        ensures { result ≡ seen.fault_at (spot_of self) fault }
+    {
+        ModelFault {
+            line: self.line,
+            column: self.column,
+            fault,
+        }
+    }
+
+    pub(crate) fn fault(self, fault: FaultWord) -> OrMemory<ModelFault>
+        ensures { result ≡ OrMemory.Fault (seen.fault_at (spot_of self) fault) }
+    {
+        OrMemory::Fault(self.model_fault(fault))
+    }
+}
+
+/// The fault of a run that is no token.
+pub(crate) fn fault_of_run(fault: LexFault) -> ModelFault
+    ensures { result ≡ record { line = fault.line; column = fault.column; fault = fault.fault } }
+{
+    ModelFault {
+        line: fault.line,
+        column: fault.column,
+        fault: fault.fault,
+    }
+}
+
+/// What the grammar sees of a token of the kind with these bytes.
+pub(crate) fn symbol_of<'a>(kind: &TokenKind, bytes: &'a [u8]) -> Symbol<'a>
+    ensures { symbol_of result ≡ seen.symbol_of kind.now bytes.now }
+{
+    match kind {
+        TokenKind::Sign { negative } => Symbol::Sign {
+            negative: *negative,
+        },
+        TokenKind::Colon => Symbol::Colon,
+        TokenKind::Comparison(sense) => Symbol::Comparison(*sense),
+        TokenKind::Number(value) => number(bytes, Quantity::Finite(*value)),
+        TokenKind::TooWide { negative, huge } => number(
+            bytes,
+            Quantity::TooWide {
+                negative: *negative,
+                huge: *huge,
+            },
+        ),
+        TokenKind::Infinite { negative } => number(
+            bytes,
+            Quantity::Infinite {
+                negative: *negative,
+            },
+        ),
+        TokenKind::Section(word) => Symbol::Keyword(*word),
+        TokenKind::Label => Symbol::Label(front_of(bytes)),
+        TokenKind::Name => Symbol::Name(bytes),
+    }
+}
+
+fn number<'a>(bytes: &'a [u8], quantity: Quantity) -> Symbol<'a>
+    ensures { result ≡ Symbol.Number (begins_with (codes "+-") bytes.now) quantity }
+{
+    Symbol::Number {
+        signed: begins_with_sign(bytes),
+        quantity,
+    }
+}
+
+fn begins_with_sign(bytes: &[u8]) -> bool
+    ensures { result ≡ begins_with (codes "+-") bytes.now }
+{
+    match bytes {
+        [byte, ..] => *byte == b'+' || *byte == b'-',
+        [] => false,
+    }
+}
+
+/// The bytes before the last one.
+fn front_of(bytes: &[u8]) -> &[u8]
+    ensures { result.now ≡ front_of bytes.now }
+{
+    match bytes {
+        [front @ .., _] => front,
+        [] => bytes,
+    }
+}
