@@ -1,5 +1,3 @@
-pub mod BlockLens
 pub mod FrameSteps
 pub mod LineCuts
-pub mod SmallModels
 pub mod Standing

@@ -4,7 +4,7 @@ pub mod Line
 pub mod Order
 pub mod Run
 pub mod Session
-pub mod SmallModel
 pub mod Step
+pub mod Tagging
 pub mod Talk
 pub mod Transcript

@@ -1,44 +1,36 @@
 -- What a line asks a session for.
-use Rattle.std.specs.Prelude.{ℕ, Bool, ◌&&◌, nat_le, List, [], ◌∷◌, length, if◌then◌else◌, codes, bytes_eq, Option, Some, None}
-use Rattle.std.specs.List.{list_all}
+use Rattle.std.specs.Prelude.{ℕ, nat_le, List, [], ◌∷◌, if◌then◌else◌, codes, bytes_eq, Option, Some, None}
 use Rattle.base_names.specs.Decimal.{number_of}
 use Rattle.base_names.specs.Id.{id_of}
 use Rattle.base_names.specs.declared.id.BatchId.{BatchId}
+use Rattle.model_data.specs.Names.{is_tag}
 use Rattle.cs_top.specs.Line.{words_of}
 use Rattle.cs_top.specs.declared.order.Order.{Order}
-use Rattle.cs_top.specs.declared.order.Order.TheVariants.{Bye, Read, SetTag, Submit, Status, Unknown}
+use Rattle.cs_top.specs.declared.order.Order.TheVariants.{Bye, Read, ReadTooLong, Write, SetTag, Submit, Status, Unknown}
+use Rattle.cs_top.specs.declared.order.TheConstants.{BLOCK_LIMIT}
 
--- 1 to 255 visible bytes
-abbrev pub is_tag_byte : ℕ → Bool
-is_tag_byte byte = nat_le 0x21 byte && nat_le byte 0x7E
-
-abbrev pub is_tag : List ℕ → Bool
-is_tag text = (nat_le 1 (length text) && nat_le (length text) 255) && list_all is_tag_byte text
-
--- the length of a block, in at most four digits
-abbrev pub block_len_of : List ℕ → Option ℕ
-block_len_of text = if nat_le (length text) 4 then number_of text else None
-
+-- the length of a block, in digits
 abbrev pub read_order : Option ℕ → Order
 read_order None = Unknown
-read_order (Some len) = Read len
+read_order (Some len) = if nat_le len BLOCK_LIMIT then Read len else ReadTooLong
 
 abbrev pub status_order : Option BatchId → Order
 status_order None = Unknown
 status_order (Some id) = Status id
 
--- Names of one byte alone can be a variable's.
+-- Whether a variable has the name is said by the answer.
 abbrev pub tag_order : (name tag : List ℕ) → Order
-tag_order [] tag = Unknown
-tag_order (variable ∷ []) tag = if is_tag tag then SetTag variable else Unknown
-tag_order (first ∷ second ∷ more) tag = Unknown
+tag_order name tag = if is_tag tag then SetTag name tag else Unknown
 
 abbrev pub bare_order : (command : List ℕ) → Order
-bare_order command = if bytes_eq command (codes "BYE") then Bye else (if bytes_eq command (codes "BATCH") then Submit else Unknown)
+bare_order command =
+    if bytes_eq command (codes "BYE") then Bye
+    else (if bytes_eq command (codes "BATCH") then Submit
+    else (if bytes_eq command (codes "WRITE") then Write else Unknown))
 
 abbrev pub order_with_one : (command argument : List ℕ) → Order
 order_with_one command argument =
-    if bytes_eq command (codes "READ") then read_order (block_len_of argument)
+    if bytes_eq command (codes "READ") then read_order (number_of argument)
     else (if bytes_eq command (codes "BSTATUS") then status_order (id_of argument) else Unknown)
 
 abbrev pub order_with_two : (command first second : List ℕ) → Order
@@ -58,7 +50,9 @@ order_of line = order_of_words (words_of line)
 abbrev pub wanted_by : Order → Option ℕ
 wanted_by (Read len) = Some len
 wanted_by Bye = None
-wanted_by (SetTag variable) = None
+wanted_by ReadTooLong = None
+wanted_by Write = None
+wanted_by (SetTag name tag) = None
 wanted_by Submit = None
 wanted_by (Status id) = None
 wanted_by Unknown = None

@@ -1,10 +1,13 @@
 -- What a session writes for its input: a fold over the frames of the input's bytes.
-use Rattle.std.specs.Prelude.{ℕ, Bool, true, false, List, [], ◌∷◌, ◌++◌, None}
+use Rattle.std.specs.Prelude.{ℕ, Bool, true, false, List, [], ◌∷◌, ◌++◌}
+use Rattle.frac128.specs.Fraction.{zero_value}
+use Rattle.model_data.specs.declared.model.Direction.TheVariants.{Minimize}
+use Rattle.model_data.specs.declared.model.Model.{Model}
 use Rattle.base_io.specs.Frames.{Frame, Whole, TooLong, frames_of}
 use Rattle.cs_top.specs.Order.{order_of, wants}
 use Rattle.cs_top.specs.Session.{Session, answer_to}
 use Rattle.cs_top.specs.declared.order.Order.{Order}
-use Rattle.cs_top.specs.declared.order.Order.TheVariants.{Bye, Read, SetTag, Submit, Status, Unknown}
+use Rattle.cs_top.specs.declared.order.Order.TheVariants.{Bye, Read, ReadTooLong, Write, SetTag, Submit, Status, Unknown}
 
 -- A session goes on, or was ended by its client, or by a line or an input that is too long.
 pub data State : Type 0 where
@@ -21,7 +24,9 @@ is_long Long = true
 abbrev pub state_after_order : Order → (after : Session) → State
 state_after_order Bye after = Left
 state_after_order (Read len) after = Ready after
-state_after_order (SetTag variable) after = Ready after
+state_after_order ReadTooLong after = Ready after
+state_after_order Write after = Ready after
+state_after_order (SetTag name tag) after = Ready after
 state_after_order Submit after = Ready after
 state_after_order (Status id) after = Ready after
 state_after_order Unknown after = Ready after
@@ -48,9 +53,13 @@ abbrev pub state_after : State → List Frame → State
 state_after state [] = state
 state_after state (frame ∷ frames) = state_after (state_at state frame) frames
 
+-- to be minimized, with nothing in it
+abbrev pub empty_model : Model
+empty_model = record { direction = Minimize; constant = zero_value; vars = []; rows = [] }
+
 -- a session of this owner that has read nothing
 abbrev pub first_session : (owner : List ℕ) → Session
-first_session owner = record { owner = owner; model = None; batches = 0 }
+first_session owner = record { owner = owner; model = empty_model; batches = 0 }
 
 -- The session's transcript: all that it writes for this input.
 abbrev pub session_text : (owner input : List ℕ) → List ℕ

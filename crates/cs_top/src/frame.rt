@@ -1,8 +1,10 @@
 //! The input of a session, a line with its block at a time.
 
-ghost use Rattle.std.specs.Prelude.{◌≡◌, ◌≤◌, None, Ok};
+ghost use Rattle.std.specs.Prelude.{◌≡◌, ◌≤◌, ℕ, List, None, Ok, length};
 ghost use Rattle.base_names.specs.Outside.{Rose};
 ghost use Rattle.cs_top.specs.Framing.{ReadsFrame};
+ghost use Rattle.cs_top.specs.declared.order.Order as orders;
+ghost use Rattle.cs_top.specs.declared.order.TheConstants.{BLOCK_LIMIT};
 
 use crate::order::Order;
 use base_io::{LineReader, Piece, Source};
@@ -31,6 +33,7 @@ pub fn next_frame<S: Source>(
     ensures same { S.name source.new ≡ S.name source.old }
     ensures later { S.faults source.old ≤ S.faults source.new }
     ensures reads { ReadsFrame result reader.old reader.new (S.left source.old) (S.left source.new) }
+    ensures short { (order : orders.Order) (block : List ℕ) → result ≡ Ok (NextFrame.Whole order block) → length block ≤ BLOCK_LIMIT }
     ensures fault { result ≡ Ok NextFrame.ReadFault → Rose (S.faults source.old) (S.faults source.new) }
 {
     let line = match reader.line(alloc, source)? {
@@ -39,9 +42,9 @@ pub fn next_frame<S: Source>(
         Piece::TooLong => return Ok(NextFrame::TooLong),
         Piece::ReadFault => return Ok(NextFrame::ReadFault),
     };
-    let order = Order::of(line.as_bytes());
+    let order = Order::of(alloc, line.as_bytes())?;
     let len = order.block_len().unwrap_or(0);
-    match reader.block(alloc, source, u32::from(len))? {
+    match reader.block(alloc, source, len)? {
         Piece::Line(block) => Ok(NextFrame::Whole(order, block)),
         Piece::End => Ok(NextFrame::End),
         Piece::TooLong => Ok(NextFrame::TooLong),

@@ -1,27 +1,32 @@
 //! What a line asks a session for.
 
-ghost use Rattle.std.specs.Prelude.{◌≡◌};
+ghost use Rattle.std.specs.Prelude.{◌≡◌, IfOk};
 ghost use Rattle.std.specs.List.{list_all};
-ghost use Rattle.cs_top.specs.Order.{is_tag, is_tag_byte, block_len_of, read_order, status_order, tag_order, bare_order, order_with_one, order_with_two, order_of, wanted_by};
+ghost use Rattle.base_names.specs.Decimal.{number_of};
+ghost use Rattle.model_data.specs.Names.{is_tag, is_visible};
+ghost use Rattle.cs_top.specs.Order.{bare_order, order_of, order_with_one, order_with_two, read_order, tag_order, wanted_by};
 
 use crate::line::first_word;
-use base_names::{BatchId, read_digits, read_id};
+use base_names::{BatchId, Name, NoMemory, Tag, are_digits, read_digits, read_id};
+use model_data::MAX_TAG_LEN;
+use std::alloc::Global;
 
-/// The most bytes that a variable's tag may have.
-const TAG_BYTES: usize = 255;
-
-/// The most digits in which the length of a block may be written.
-const BLOCK_LEN_DIGITS: usize = 4;
+/// The longest block that a session reads, in bytes.
+pub const BLOCK_LIMIT: u32 = 1_048_576;
 
 /// What a line asks for.
-#[derive(Clone, Copy, Debug, PartialEq, Eq)]
+#[derive(Debug, Drop)]
 pub enum Order {
     /// To end the session.
     Bye,
-    /// To take the block of so many bytes that stands behind the line for the session's model.
-    Read(u16),
-    /// To tag the variable of this name.
-    SetTag(u8),
+    /// To take the model that the block of so many bytes behind the line spells.
+    Read(u32),
+    /// To take one from a block that is too long, of which nothing is read.
+    ReadTooLong,
+    /// To write the model.
+    Write,
+    /// To give the variable of this name a tag.
+    SetTag(Name, Tag),
     /// To submit the model as a batch.
     Submit,
     /// To tell a batch's status.
@@ -32,26 +37,26 @@ pub enum Order {
 
 impl Order {
     /// The order that a line gives.
-    pub fn of(line: &[u8]) -> Order
-        ensures { result ≡ order_of line.now }
+    pub fn of(alloc: Global, line: &[u8]) -> Result<Order, NoMemory>
+        ensures { IfOk result (λ order. order ≡ order_of line.now) }
     {
         let Some((command, rest)) = first_word(line) else {
-            return Order::Unknown;
+            return Ok(Order::Unknown);
         };
         let Some((first, rest)) = first_word(rest) else {
-            return bare_order(command);
+            return Ok(bare_order(command));
         };
         let Some((second, rest)) = first_word(rest) else {
-            return order_with_one(command, first);
+            return Ok(order_with_one(command, first));
         };
         if first_word(rest).is_some() {
-            return Order::Unknown;
+            return Ok(Order::Unknown);
         }
-        order_with_two(command, first, second)
+        order_with_two(alloc, command, first, second)
     }
 
     /// How many bytes of a block stand behind the line of this order. None where no block does.
-    pub fn block_len(&self) -> Option<u16>
+    pub fn block_len(&self) -> Option<u32>
         ensures { result ≡ wanted_by self.now }
     {
         match self {
@@ -68,6 +73,8 @@ fn bare_order(command: &[u8]) -> Order
         Order::Bye
     } else if command == b"BATCH".as_slice() {
         Order::Submit
+    } else if command == b"WRITE".as_slice() {
+        Order::Write
     } else {
         Order::Unknown
     }
@@ -77,7 +84,7 @@ fn order_with_one(command: &[u8], argument: &[u8]) -> Order
     ensures { result ≡ order_with_one command.now argument.now }
 {
     if command == b"READ".as_slice() {
-        block_len(argument).map_or(Order::Unknown, Order::Read)
+        read_order(argument)
     } else if command == b"BSTATUS".as_slice() {
         read_id(argument).map_or(Order::Unknown, Order::Status)
     } else {
@@ -85,47 +92,53 @@ fn order_with_one(command: &[u8], argument: &[u8]) -> Order
     }
 }
 
-fn order_with_two(command: &[u8], first: &[u8], second: &[u8]) -> Order
-    ensures { result ≡ order_with_two command.now first.now second.now }
+fn order_with_two(
+    alloc: Global,
+    command: &[u8],
+    first: &[u8],
+    second: &[u8],
+) -> Result<Order, NoMemory>
+    ensures { IfOk result (λ order. order ≡ order_with_two command.now first.now second.now) }
 {
     if command == b"SETVTAG".as_slice() {
-        tag_order(first, second)
+        tag_order(alloc, first, second)
     } else {
-        Order::Unknown
+        Ok(Order::Unknown)
     }
 }
 
-fn tag_order(name: &[u8], tag: &[u8]) -> Order
-    ensures { result ≡ tag_order name.now tag.now }
+fn tag_order(alloc: Global, name: &[u8], tag: &[u8]) -> Result<Order, NoMemory>
+    ensures { IfOk result (λ order. order ≡ tag_order name.now tag.now) }
 {
-    match name {
-        [variable] if is_tag(tag) => Order::SetTag(*variable),
-        _ => Order::Unknown,
+    if !is_tag(tag) {
+        return Ok(Order::Unknown);
     }
+    Ok(Order::SetTag(Name::of(name.to_vec(alloc)?), Tag::of(tag.to_vec(alloc)?)))
 }
 
-/// The length of a block in digits.
-fn block_len(text: &[u8]) -> Option<u16>
-    ensures { result ≡ block_len_of text.now }
+/// The length of a block in digits, of which there may be any number.
+fn read_order(text: &[u8]) -> Order
+    ensures { result ≡ read_order (number_of text.now) }
 {
-    if text.len() > BLOCK_LEN_DIGITS {
-        return None;
+    if !are_digits(text) {
+        return Order::Unknown;
     }
-    u16::try_from(read_digits(text)?).ok()
+    match read_digits(text) {
+        Some(len) if len <= u64::from(BLOCK_LIMIT) => Order::Read(len as u32),
+        _ => Order::ReadTooLong,
+    }
 }
 
 /// Whether a text may be the tag of a variable.
+#[tactic(auto, unfolding(model_data::specs::Names::is_tag))]
 fn is_tag(text: &[u8]) -> bool
     ensures { result ≡ is_tag text.now }
 {
-    match text.len() {
-        1..=TAG_BYTES => are_tag_bytes(text),
-        _ => false,
-    }
+    !text.is_empty() && are_visible(text) && text.len() <= MAX_TAG_LEN
 }
 
-fn are_tag_bytes(text: &[u8]) -> bool
-    ensures { result ≡ list_all is_tag_byte text.now }
+fn are_visible(text: &[u8]) -> bool
+    ensures { result ≡ list_all is_visible text.now }
 {
     text.iter().all(|byte| byte.is_ascii_graphic())
 }

@@ -1,16 +1,23 @@
 //! A session: one owner, one model, and the batches that were submitted.
 
-ghost use Rattle.std.specs.Prelude.{◌≡◌, ◌++◌, OnOk, OnErr, is_some, None};
+ghost use Rattle.std.specs.Prelude.{◌≡◌, ◌++◌, ◌≤◌, OnOk, OnErr, is_some, length};
 ghost use Rattle.base_names.specs.Id.{id_text};
 ghost use Rattle.base_names.specs.RefusalText.{refusal_text};
-ghost use Rattle.cs_top.specs.Session.{line_of, has_submitted};
-ghost use Rattle.cs_top.specs.SmallModel.{variable_of};
+ghost use Rattle.lp_defs.specs.Text.{reading};
+ghost use Rattle.cs_top.specs.Session.{block_of, has_submitted, line_of};
+ghost use Rattle.cs_top.specs.Tagging.{tagged};
+ghost use Rattle.cs_top.specs.Transcript.{first_session};
+ghost use Rattle.cs_top.specs.declared.order.TheConstants.{BLOCK_LIMIT};
 
 use crate::order::Order;
-use crate::small_model::{SmallModel, variable_of};
+use crate::tagging::{has_tagged_var, put_tag, tag_place};
 use base_names::{
-    BatchId, FaultWord, NoMemory, Owner, OwnerLimit, Refusal, refusal_text, write_id,
+    BatchId, Name, NoMemory, OrMemory, Owner, OwnerLimit, Refusal, Tag, refusal_text,
+    write_decimal, write_id,
 };
+use lp_defs::ModelFault;
+use lp_parse::parse;
+use lp_print::print;
 use std::alloc::Global;
 use std::marker::Model;
 
@@ -24,7 +31,7 @@ enum BatchStatus {
 #[derive(Debug, Drop)]
 pub struct Session {
     owner: Owner,
-    model: Option<SmallModel>,
+    model: model_data::Model,
     /// The batches by number, from 1 on.
     batches: Vec<BatchStatus>,
 }
@@ -41,21 +48,20 @@ impl Model for Session {
 }
 
 impl Session {
-    ghost use Rattle.cs_top.specs.Session.{answer_to, read_answer, tag_answer, submit_answer, status_answer};
+    ghost use Rattle.cs_top.specs.Session.{answer_to, read_answer, write_answer, tag_answer, submit_answer, status_answer};
 
     /// A session of this owner that has read nothing. It allocates nothing.
     pub fn new(alloc: Global, owner: Owner) -> Session
-        ensures { result ≡ record { owner = owner; model = None; batches = 0 } }
+        ensures { result ≡ first_session owner }
     {
         Session {
             owner,
-            model: None,
+            model: model_data::Model::empty(alloc),
             batches: Vec::new(alloc),
         }
     }
 
-    /// Answers an order with its block: `reply` becomes the answer's line. Want of memory leaves the
-    /// session as it was.
+    /// Answers an order with its block: `reply` becomes the answer. Want of memory leaves the session as it was.
     #[tactic(auto, unfolding(crate::specs::Session::answer_to))]
     pub fn answer(
         &mut self,
@@ -64,6 +70,7 @@ impl Session {
         block: &[u8],
         reply: &mut Vec<u8>,
     ) -> Result<(), NoMemory>
+        requires { length block.now ≤ BLOCK_LIMIT }
         ensures text { OnOk result (reply.new.items ≡ (answer_to self.old order block.now).text) }
         ensures session { OnOk result (self.new ≡ (answer_to self.old order block.now).session) }
         ensures err { OnErr result (self.new ≡ self.old) }
@@ -71,7 +78,9 @@ impl Session {
         match order {
             Order::Bye => says(reply, b"BYE"),
             Order::Read(_) => self.read(alloc, block, reply),
-            Order::SetTag(variable) => self.set_tag(alloc, variable, reply),
+            Order::ReadTooLong => refuses(alloc, Refusal::SIZE, reply),
+            Order::Write => self.write(alloc, reply),
+            Order::SetTag(name, tag) => self.set_tag(alloc, &name, tag, reply),
             Order::Submit => self.submit(alloc, reply),
             Order::Status(id) => self.tell_status(alloc, &id, reply),
             Order::Unknown => refuses(alloc, Refusal::LINE, reply),
@@ -79,43 +88,64 @@ impl Session {
     }
 
     fn read(&mut self, alloc: Global, block: &[u8], reply: &mut Vec<u8>) -> Result<(), NoMemory>
-        ensures text { OnOk result (reply.new.items ≡ (read_answer self.old (variable_of block.now)).text) }
-        ensures session { OnOk result (self.new ≡ (read_answer self.old (variable_of block.now)).session) }
+        requires { length block.now ≤ BLOCK_LIMIT }
+        ensures text { OnOk result (reply.new.items ≡ (read_answer self.old (reading block.now)).text) }
+        ensures session { OnOk result (self.new ≡ (read_answer self.old (reading block.now)).session) }
         ensures err { OnErr result (self.new ≡ self.old) }
     {
-        let Some(variable) = variable_of(block) else {
-            return refuses(alloc, Refusal::MODEL(1, 1, FaultWord::Unsupported), reply);
-        };
-        says(reply, b"OK")?;
-        self.model = Some(SmallModel::new(variable));
-        Ok(())
-    }
-
-    fn set_tag(&mut self, alloc: Global, variable: u8, reply: &mut Vec<u8>) -> Result<(), NoMemory>
-        ensures text { OnOk result (reply.new.items ≡ (tag_answer self.old self.old.model variable).text) }
-        ensures session { OnOk result (self.new ≡ (tag_answer self.old self.old.model variable).session) }
-        ensures err { OnErr result (self.new ≡ self.old) }
-    {
-        match self.model {
-            Some(model) if model.variable == variable => {
+        match parse(alloc, block) {
+            Ok(model) => {
                 says(reply, b"OK")?;
-                self.model = Some(SmallModel {
-                    variable,
-                    is_tagged: true,
-                });
+                self.model = model;
                 Ok(())
             }
-            _ => refuses(alloc, Refusal::LINE, reply),
+            Err(
+                OrMemory::Fault(
+                    ModelFault {
+                        line,
+                        column,
+                        fault,
+                    },
+                ),
+            ) => { refuses(alloc, Refusal::MODEL(line, column, fault), reply) }
+            Err(OrMemory::NoMemory) => Err(NoMemory),
+        }
+    }
+
+    fn write(&self, alloc: Global, reply: &mut Vec<u8>) -> Result<(), NoMemory>
+        ensures { OnOk result (reply.new.items ≡ (write_answer self.now).text) }
+    {
+        let text = print(alloc, &self.model)?;
+        says_block(alloc, text.as_bytes(), reply)
+    }
+
+    fn set_tag(
+        &mut self,
+        alloc: Global,
+        name: &Name,
+        tag: Tag,
+        reply: &mut Vec<u8>,
+    ) -> Result<(), NoMemory>
+        ensures text { OnOk result (reply.new.items ≡ (tag_answer self.old (tagged name.now tag self.old.model)).text) }
+        ensures session { OnOk result (self.new ≡ (tag_answer self.old (tagged name.now tag self.old.model)).session) }
+        ensures err { OnErr result (self.new ≡ self.old) }
+    {
+        match tag_place(self.model.vars.as_slice(), name.as_bytes(), tag.as_bytes()) {
+            Some(place) => {
+                says(reply, b"OK")?;
+                put_tag(alloc, &mut self.model, place, tag);
+                Ok(())
+            }
+            None => refuses(alloc, Refusal::LINE, reply),
         }
     }
 
     fn submit(&mut self, alloc: Global, reply: &mut Vec<u8>) -> Result<(), NoMemory>
-        ensures text { OnOk result (reply.new.items ≡ (submit_answer self.old self.old.model).text) }
-        ensures session { OnOk result (self.new ≡ (submit_answer self.old self.old.model).session) }
+        ensures text { OnOk result (reply.new.items ≡ (submit_answer self.old).text) }
+        ensures session { OnOk result (self.new ≡ (submit_answer self.old).session) }
         ensures err { OnErr result (self.new ≡ self.old) }
     {
-        let is_ready = self.model.is_some_and(|model| model.is_tagged);
-        if !is_ready {
+        if !has_tagged_var(&self.model) {
             return refuses(alloc, Refusal::LINE, reply);
         }
         let last = self.batches.len() as u32;
@@ -157,6 +187,20 @@ fn says(reply: &mut Vec<u8>, text: &[u8]) -> Result<(), NoMemory>
     ensures { OnOk result (reply.new.items ≡ line_of text.now) }
 {
     reply.clear();
+    reply.extend_from_slice(text)?;
+    reply.push(b'\n')?;
+    Ok(())
+}
+
+/// Makes `reply` a block with this text.
+fn says_block(alloc: Global, text: &[u8], reply: &mut Vec<u8>) -> Result<(), NoMemory>
+    ensures { OnOk result (reply.new.items ≡ block_of text.now) }
+{
+    let len = write_decimal(alloc, text.len() as u64)?;
+    reply.clear();
+    reply.extend_from_slice(b"BLOCK ")?;
+    reply.extend_from_slice(len.as_bytes())?;
+    reply.push(b'\n')?;
     reply.extend_from_slice(text)?;
     reply.push(b'\n')?;
     Ok(())

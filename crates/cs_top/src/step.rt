@@ -1,8 +1,9 @@
 //! One order of a session, answered on a sink.
 
-ghost use Rattle.std.specs.Prelude.{◌≡◌, ◌≤◌};
+ghost use Rattle.std.specs.Prelude.{◌≡◌, ◌≤◌, length};
 ghost use Rattle.base_names.specs.Outside.{Rose};
 ghost use Rattle.cs_top.specs.Step.{StepSays};
+ghost use Rattle.cs_top.specs.declared.order.TheConstants.{BLOCK_LIMIT};
 
 use crate::order::Order;
 use crate::session::Session;
@@ -28,17 +29,19 @@ pub fn step<K: Sink>(
     reply: &mut Vec<u8>,
     sink: &mut K,
 ) -> Next
+    requires { length block.now ≤ BLOCK_LIMIT }
     ensures same { K.name sink.new ≡ K.name sink.old }
     ensures later { K.faults sink.old ≤ K.faults sink.new }
     ensures says { StepSays result order block.now session.old session.new (K.contents sink.old) (K.contents sink.new) }
     ensures fault { result ≡ Next.WriteFault → Rose (K.faults sink.old) (K.faults sink.new) }
 {
+    let is_last = matches!(order, Order::Bye);
     if session.answer(alloc, order, block, reply).is_err() {
         return Next::NoMemory;
     }
     match put(sink, reply.as_slice()) {
         Wrote::WriteFault => Next::WriteFault,
-        Wrote::Done if order == Order::Bye => Next::Bye,
+        Wrote::Done if is_last => Next::Bye,
         Wrote::Done => Next::More,
     }
 }

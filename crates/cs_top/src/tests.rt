@@ -71,7 +71,7 @@ fn answers_a_session(rt: HostRuntime) -> Result<(), Fail> {
         ),
         (
             b"READ 3\nabcBATCH\n",
-            b"OK\nOK\nERR 4 MODEL 1 1 UNSUPPORTED\nBATCH ada.1\n",
+            b"OK\nOK\nERR 4 MODEL 1 1 NOSECTION\nBATCH ada.1\n",
         ),
         (b"FOO\n", b"OK\nOK\nERR 2 LINE\n"),
         (
@@ -83,16 +83,23 @@ fn answers_a_session(rt: HostRuntime) -> Result<(), Fail> {
             b"READ 0039\nMinimize\n y\nSubject To\n y: y >= 07\nEnd\nBATCH\nSETVTAG x x\nSETVTAG y x\nBATCH\n",
             b"OK\nOK\nOK\nERR 2 LINE\nERR 2 LINE\nOK\nBATCH ada.1\n",
         ),
+        // A tag is one variable's, which may get another one.
+        (
+            b"READ 18\nMin x + y\nst\nEnd\nSETVTAG x t\nSETVTAG y t\nSETVTAG x u\nSETVTAG y t\nSETVTAG x u\nSETVTAG z v\nSETVTAG x\n",
+            b"OK\nOK\nOK\nOK\nERR 2 LINE\nOK\nOK\nOK\nERR 2 LINE\nERR 2 LINE\n",
+        ),
         // Words, blanks and line ends; a batch's ID has one spelling.
         (
             b"\n \t\n BYE x\nbye\nBSTATUS ada.01\nBSTATUS ada.0\n\tBYE \t\r\nFOO\n",
             b"OK\nOK\nERR 2 LINE\nERR 2 LINE\nERR 2 LINE\nERR 2 LINE\nERR 2 LINE\nERR 13 BATCH\nBYE\n",
         ),
         // A last line without an end counts, and a block that is cut short does not.
-        (b"READ 0", b"OK\nOK\nERR 4 MODEL 1 1 UNSUPPORTED\n"),
+        (b"READ 0", b"OK\nOK\nERR 4 MODEL 1 1 NOSECTION\n"),
+        (b"BATCH\nREAD 10000\nREAD 5\nabcd", b"OK\nOK\nBATCH ada.1\n"),
+        // Behind a length past the limit no block stands, however many digits it has.
         (
-            b"BATCH\nREAD 10000\nREAD 5\nabcd",
-            b"OK\nOK\nBATCH ada.1\nERR 2 LINE\n",
+            b"READ 1048577\nREAD 999999999999999999999999999999\nREAD +1\nREAD 1 1\nWRITE 1\n",
+            b"OK\nOK\nERR 10 SIZE\nERR 10 SIZE\nERR 2 LINE\nERR 2 LINE\nERR 2 LINE\n",
         ),
         (b"BYE\r", b"OK\nOK\nERR 2 LINE\n"),
     ];
@@ -102,6 +109,80 @@ fn answers_a_session(rt: HostRuntime) -> Result<(), Fail> {
             &session(rt.alloc(), &[ROW_UP_TO_THE_TAG, input])?,
             output,
         );
+    }
+    Ok(())
+}
+
+/// A text, and the block that `WRITE` answers behind it.
+const PLAN: &[u8] = b"\\ Model plan
+\\ LP format - for model browsing. Use MPS format to capture full model detail.
+Maximize
+  x + 2 y + 3 Constant
+Subject To
+ c0: x + y <= 4
+Bounds
+ -infinity <= y <= 5
+ Constant = 1
+Generals
+ x
+End
+";
+
+const WRITTEN_PLAN: &[u8] = b"BLOCK 126
+Maximize
+ + 1 x + 2 y + 3 Constant
+Subject To
+ c0: + 1 x + 1 y <= 4
+Bounds
+ -infinity <= y <= 5
+ Constant = 1
+Generals
+ x
+End
+
+";
+
+/// Two names, of which one has a sign in it.
+const SUM_NAME: &[u8] = b"Minimize\n x\nSubject To\n c: x+y >= 1\n d: 2 x > 1\nEnd\n";
+
+const WRITTEN_SUM_NAME: &[u8] = b"BLOCK 71
+Minimize
+ + 1 x + 0 x+y
+Subject To
+ c: + 1 x+y >= 1
+ d: + 2 x >= 1
+End
+
+";
+
+#[test]
+fn reads_and_writes_models(rt: HostRuntime) -> Result<(), Fail> {
+    let rows: &[(&[&[u8]], &[&[u8]])] = &[
+        (
+            &[b"WRITE\n"],
+            &[b"BLOCK 26\nMinimize\n \nSubject To\nEnd\n\n"],
+        ),
+        (&[b"READ 209\n", PLAN, b"WRITE\n"], &[b"OK\n", WRITTEN_PLAN]),
+        (
+            &[b"READ 52\n", SUM_NAME, b"WRITE\n"],
+            &[b"OK\n", WRITTEN_SUM_NAME],
+        ),
+        // A text that is refused leaves the model as it was.
+        (
+            &[
+                b"READ 52\n",
+                SUM_NAME,
+                b"READ 52\nMinimize\n x\nSubject To\n c: x+y >= 1\n d: 2x >= 1\nEnd\nWRITE\n",
+            ],
+            &[b"OK\nERR 4 MODEL 5 5 NUMBER\n", WRITTEN_SUM_NAME],
+        ),
+    ];
+    for (input, output) in rows {
+        let mut wanted = Vec::new(rt.alloc());
+        for part in *output {
+            wanted.extend_from_slice(part)?;
+        }
+        assert_answers(&rt, &session(rt.alloc(), input)?, wanted.as_slice());
     }
     Ok(())
 }
@@ -189,8 +270,8 @@ fn tells_each_read_that_fails(rt: HostRuntime) -> Result<(), Fail> {
     // How many bytes have come when each answer is due, and what is written by then.
     let due: &[(u64, &[u8])] = &[
         (4, b"ERR 2 LINE\n"),
-        (14, b"ERR 2 LINE\nERR 4 MODEL 1 1 UNSUPPORTED\n"),
-        (15, b"ERR 2 LINE\nERR 4 MODEL 1 1 UNSUPPORTED\nERR 2 LINE\n"),
+        (14, b"ERR 2 LINE\nERR 4 MODEL 1 1 NOSECTION\n"),
+        (15, b"ERR 2 LINE\nERR 4 MODEL 1 1 NOSECTION\nERR 2 LINE\n"),
     ];
     for failing in 1..20 {
         let mut source = Drops {
