@@ -85,7 +85,7 @@ fn answers_a_session(rt: HostRuntime) -> Result<(), Fail> {
         ),
         // A tag is one variable's, which may get another one.
         (
-            b"READ 18\nMin x + y\nst\nEnd\nSETVTAG x t\nSETVTAG y t\nSETVTAG x u\nSETVTAG y t\nSETVTAG x u\nSETVTAG z v\nSETVTAG x\n",
+            b"READ 17\nMin x + y\nst\nEnd\nSETVTAG x t\nSETVTAG y t\nSETVTAG x u\nSETVTAG y t\nSETVTAG x u\nSETVTAG z v\nSETVTAG x\n",
             b"OK\nOK\nOK\nOK\nERR 2 LINE\nOK\nOK\nOK\nERR 2 LINE\nERR 2 LINE\n",
         ),
         // Words, blanks and line ends; a batch's ID has one spelling.
