@@ -99,15 +99,7 @@ impl Session {
                 self.model = model;
                 Ok(())
             }
-            Err(
-                OrMemory::Fault(
-                    ModelFault {
-                        line,
-                        column,
-                        fault,
-                    },
-                ),
-            ) => { refuses(alloc, Refusal::MODEL(line, column, fault), reply) }
+            Err(OrMemory::Fault(fault)) => refuses(alloc, model_refusal(&fault), reply),
             Err(OrMemory::NoMemory) => Err(NoMemory),
         }
     }
@@ -180,6 +172,13 @@ impl Session {
         }
         self.batches.get(id.number as usize - 1).copied()
     }
+}
+
+/// Why a text is no model's, as a refusal.
+fn model_refusal(fault: &ModelFault) -> Refusal
+    ensures { result ≡ Refusal.MODEL fault.now.line fault.now.column fault.now.fault }
+{
+    Refusal::MODEL(fault.line, fault.column, fault.fault)
 }
 
 /// Makes `reply` a line with this text.
