@@ -55,7 +55,7 @@ module _ {vars : List Var} {var_names : List (List ℕ)} {rows : List Row} {row_
 abbrev with_vars : Unfinished → List Var → Unfinished
 with_vars u vars = record u { model = record u.model { vars = vars } }
 
-module _ (draft : Inside) (sound : IsSound draft.vars.items draft.var_names draft.rows.items draft.row_names draft.closed_terms draft.terms.items)
+module _ (draft : Inside) (sound : IsSound draft.vars.items draft.var_names draft.rows.items draft.row_names draft.closed_terms draft.terms)
     {u : Unfinished} (shows : shown_of draft ≡ u) (text : List ℕ) (change : Var → Var) where
   -- a variable that is found and written is changed by name
   pub written : {place : ℕ} → Some place ≡ position (bytes_eq text) draft.var_names → true ≡ list_any (bytes_eq text) draft.var_names

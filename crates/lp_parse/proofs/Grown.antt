@@ -13,7 +13,7 @@ use Rattle.model_data.specs.declared.limits.TheConstants.{MAX_VARS}
 use Rattle.model_data.specs.declared.model.Row.{Row}
 use Rattle.model_data.specs.declared.model.Term.{Term}
 use Rattle.model_data.specs.declared.model.Var.{Var}
-use Rattle.lp_parse.specs.Draft.{AreRising, IsSound, with_name}
+use Rattle.lp_parse.specs.Draft.{IsSound, with_name}
 
 or_false : (b : Bool) → (b || false) ≡ b
 or_false true = refl
@@ -59,7 +59,6 @@ module _ {vars : List Var} {var_names : List (List ℕ)} {rows : List Row} {row_
         distinct = subst AreDistinct (sym all_names) (distinct_push var_names text sound.distinct new);
         row_names_are = sound.row_names_are;
         counted = sound.counted;
-        rising = sound.rising;
         var_limit = omega (arith, room, length_push vars v, ap length pushed);
         term_limit = sound.term_limit;
       }
@@ -76,7 +75,6 @@ module _ {vars : List Var} {var_names : List (List ℕ)} {rows : List Row} {row_
     counted =
         ap (λ (n : ℕ). n + length terms) sound.counted ∙ ap (λ (l : List Term). sum_by (λ (s : Row). length s.terms) rows + length l) (sym same)
         ∙ sym (sum_by_push (λ (s : Row). length s.terms) rows r) ∙ ap (sum_by (λ (s : Row). length s.terms)) (sym pushed);
-    rising = subst AreRising (sym none) (λ i j d before within. absurd (omega arith));
     var_limit = sound.var_limit;
     term_limit = omega (arith, sound.term_limit, ap length none);
   }

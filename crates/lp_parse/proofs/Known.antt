@@ -45,7 +45,6 @@ module _ {vars : List Var} {var_names : List (List ℕ)} {rows : List Row} {row_
     distinct = sound.distinct;
     row_names_are = sound.row_names_are;
     counted = sound.counted;
-    rising = sound.rising;
     var_limit = subst (λ n. n ≤ MAX_VARS) (sym (length-set vars place w)) sound.var_limit;
     term_limit = sound.term_limit;
   }
@@ -65,11 +64,11 @@ unchanged text change (v ∷ vars) h =
 abbrev pub shown_of : Inside → Unfinished
 shown_of draft = record {
   model = record { direction = draft.direction; constant = draft.constant; vars = draft.vars.items; rows = draft.rows.items };
-  row = record { title = draft.title.items; terms = draft.terms.items };
+  row = record { title = draft.title.items; terms = draft.terms };
 }
 
 -- what is shown knows the names of the tables
-module _ (draft : Inside) (sound : IsSound draft.vars.items draft.var_names draft.rows.items draft.row_names draft.closed_terms draft.terms.items)
+module _ (draft : Inside) (sound : IsSound draft.vars.items draft.var_names draft.rows.items draft.row_names draft.closed_terms draft.terms)
     {u : Unfinished} (shows : shown_of draft ≡ u) (text : List ℕ) where
   pub knows_var_shown : knows_var text u.model ≡ list_any (bytes_eq text) draft.var_names
   knows_var_shown = sym (knows_var-table sound text ∙ ap (λ (u : Unfinished). knows_var text u.model) shows)

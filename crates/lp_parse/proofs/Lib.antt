@@ -7,6 +7,4 @@ pub mod ObjectiveOf
 pub mod Outcomes
 pub mod Pairs
 pub mod ReadSoFar
-pub mod Rising
 pub mod Tables
-pub mod TermPlaces

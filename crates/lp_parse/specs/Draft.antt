@@ -1,5 +1,5 @@
 -- What holds of a draft's tables and counts.
-use Rattle.std.specs.Prelude.{◌≡◌, ℕ, ◌+◌, ◌<◌, ◌≤◌, List, length, map, bytes_eq, AllPairs, sum_by, if◌then◌else◌, ◌++◌, ◌∷◌, []}
+use Rattle.std.specs.Prelude.{◌≡◌, ℕ, ◌+◌, ◌≤◌, List, length, map, bytes_eq, sum_by, if◌then◌else◌, ◌++◌, ◌∷◌, []}
 use Rattle.std.specs.List.{list_any}
 use Rattle.model_data.specs.Lawful.{AreDistinct}
 use Rattle.model_data.specs.declared.limits.TheConstants.{MAX_TERMS, MAX_VARS}
@@ -11,9 +11,6 @@ use Rattle.model_data.specs.declared.model.Var.{Var}
 abbrev pub with_name : List (List ℕ) → List ℕ → List (List ℕ)
 with_name names name = if list_any (bytes_eq name) names then names else names ++ name ∷ []
 
-abbrev pub AreRising : List Term → Type 0
-AreRising terms = AllPairs (λ s t. s.var < t.var) terms
-
 pub record IsSound (vars : List Var) (var_names : List (List ℕ)) (rows : List Row) (row_names : List (List ℕ)) (closed_terms : ℕ)
     (terms : List Term) : Type 0 where
   -- a variable's name has its place
@@ -23,6 +20,5 @@ pub record IsSound (vars : List Var) (var_names : List (List ℕ)) (rows : List 
   pub row_names_are : (text : List ℕ) → list_any (bytes_eq text) row_names ≡ list_any (λ r. bytes_eq text r.name) rows
   -- the terms of the whole rows
   pub counted : closed_terms ≡ sum_by (λ r. length r.terms) rows
-  pub rising : AreRising terms
   pub var_limit : length vars ≤ MAX_VARS
   pub term_limit : closed_terms + length terms ≤ MAX_TERMS

@@ -1,7 +1,14 @@
--- Which term of a row is a variable's.
-use Rattle.std.specs.Prelude.{◌≡◌, ℕ, ◌<◌, List, length, slice_index_or}
+-- What a tree of coefficients, whose keys are variables in falling order, has as terms.
+use Rattle.std.specs.Prelude.{ℕ, List, [], ◌∷◌, ◌++◌}
+use Rattle.std.specs.declared.cmp.Reverse.{Reverse}
+use Rattle.frac128.specs.Fraction.{Fraction}
 use Rattle.model_data.specs.declared.model.Term.{Term}
 
--- the term at the place is the variable's
-abbrev pub IsTermOf : List Term → ℕ → ℕ → Type 0
-IsTermOf terms at var = (at < length terms) × ((d : Term) → (slice_index_or terms at d).var ≡ var)
+-- a variable and its coefficient
+abbrev pub term_of : Reverse ℕ × Fraction → Term
+term_of e = record { var = e.0.0; coef = e.1 }
+
+-- the terms of entries, from the last one on
+abbrev pub terms_of : List (Reverse ℕ × Fraction) → List Term
+terms_of [] = []
+terms_of (e ∷ es) = terms_of es ++ term_of e ∷ []

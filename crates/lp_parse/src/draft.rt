@@ -14,11 +14,11 @@ ghost use Rattle.lp_parse.specs.Outcome.{Meets};
 use crate::names::Names;
 use crate::quantity::{Limit, unit};
 use crate::symbol::Spot;
-use crate::terms::{coefficient_in, count_with, set_coefficient};
+use crate::terms::Terms;
 use base_names::{FaultWord, Name, NoMemory, OrMemory, Seq, write_decimal};
 use frac128::Frac;
 use lp_defs::ModelFault;
-use model_data::{Direction, MAX_ROWS, MAX_TERMS, MAX_VARS, Row, Sense, Term, Var, VarKind};
+use model_data::{Direction, MAX_ROWS, MAX_TERMS, MAX_VARS, Row, Sense, Var, VarKind};
 use std::alloc::Global;
 use std::marker::Model;
 
@@ -36,7 +36,7 @@ pub(crate) struct Draft {
     /// The name of the row that isn't whole.
     title: Vec<u8>,
     /// Its terms so far.
-    terms: Vec<Term>,
+    terms: Terms,
 }
 
 /// A term of the objective or of a row.
@@ -88,10 +88,10 @@ impl Model for Draft {
 
     ghost view = { λ d. record {
       model = record { direction = d.direction; constant = d.constant; vars = d.vars.items; rows = d.rows.items };
-      row = record { title = d.title.items; terms = d.terms.items };
+      row = record { title = d.title.items; terms = d.terms };
     } };
 
-    ghost invariant = { λ d. IsSound d.vars.items d.var_names d.rows.items d.row_names d.closed_terms d.terms.items };
+    ghost invariant = { λ d. IsSound d.vars.items d.var_names d.rows.items d.row_names d.closed_terms d.terms };
 }
 
 impl Draft {
@@ -108,7 +108,7 @@ impl Draft {
             row_names: Names::new(alloc),
             closed_terms: 0,
             title: Vec::new(alloc),
-            terms: Vec::new(alloc),
+            terms: Terms::new(alloc),
         }
     }
 
@@ -237,7 +237,7 @@ impl Draft {
             return Err(spot.fault(FaultWord::Size));
         }
         self.title = title.to_vec(alloc)?;
-        self.terms = Vec::new(alloc);
+        self.terms = Terms::new(alloc);
         Ok(())
     }
 
@@ -263,13 +263,13 @@ impl Draft {
         ensures { Meets result (λ _. self.new) (rows.add_to_row (summand_of term.now) self.old) }
     {
         let var = self.var_place(term.name);
-        let so_far = coefficient_in(&self.terms, var);
+        let so_far = self.terms.coefficient(var);
         let sum = added(so_far, term.coefficient, term.number_spot)?;
         self.mention(alloc, term.name_spot, term.name)?;
         if !self.has_room_for_term(var, &sum) {
             return Err(term.name_spot.fault(FaultWord::Size));
         }
-        set_coefficient(&mut self.terms, var, sum)?;
+        self.terms.set_coefficient(var, sum)?;
         Ok(())
     }
 
@@ -284,7 +284,9 @@ impl Draft {
     fn has_room_for_term(&self, var: u32, coef: &Frac) -> bool
         ensures { result ≡ nat_le (term_count self.now.model + length (defs.with_coefficient var coef.now self.now.row.terms)) MAX_TERMS }
     {
-        self.closed_terms + count_with(&self.terms, var, coef) <= MAX_TERMS
+        // Far from the limit, where there is room for any further term, no search is needed.
+        self.closed_terms + self.terms.len() < MAX_TERMS
+            || self.closed_terms + self.terms.count_with(var, coef) <= MAX_TERMS
     }
 
     /// Ends the row that isn't whole with its comparison and its right side.
@@ -296,10 +298,11 @@ impl Draft {
     ) -> Result<(), NoMemory>
         ensures { OnOk result (self.new.model ≡ defs.close_row sense rhs self.old) }
     {
+        let terms = self.terms.to_vec(alloc)?;
         self.rows.reserve(1)?;
         self.row_names.add(alloc, self.title.as_slice())?;
         let title = std::mem::replace(&mut self.title, Vec::new(alloc));
-        let terms = std::mem::replace(&mut self.terms, Vec::new(alloc));
+        self.terms = Terms::new(alloc);
         self.closed_terms += terms.len();
         self.rows.push_reserved(Row {
             name: Name::of(title),

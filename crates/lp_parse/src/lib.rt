@@ -3,7 +3,8 @@
 //! [`parse`] reads a text in one pass, token by token with one in view, and gives the model or the fault that the reading
 //! of `lp_defs` gives. Its [`Stage`](stage::Stage) and its [`Draft`](draft::Draft) together stand for a stage of that
 //! reading (`specs/Meaning.antt`). What holds of the draft's tables and counts stands in `specs/Draft.antt`. A name is
-//! found by a table and a term of the open row by halving, so no token takes time in the number of variables or rows.
+//! found by a table and a term of the open row by a tree, so no token takes time in the number of variables or rows; the end
+//! of a row takes time in the number of its terms.
 #![tactic(auto)]
 
 mod draft;

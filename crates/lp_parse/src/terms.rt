@@ -1,76 +1,100 @@
-//! The terms of a row, which rise by variable.
-ghost use Rattle.std.specs.Prelude.{◌≡◌, ◌+◌, ◌≤◌, ◌↔◌, IsTrue, OnErr, OnOk, length, nat_lt, take_while};
+//! The terms of a row that isn't whole.
+ghost use Rattle.std.specs.Prelude.{◌≡◌, ◌+◌, ◌≤◌, [], IfOk, OnErr, OnOk, length};
 ghost use Rattle.lp_defs.specs.Draft.{coefficient_in, with_coefficient};
-ghost use Rattle.lp_parse.specs.Draft.{AreRising};
-ghost use Rattle.lp_parse.specs.Terms.{IsTermOf};
 
 use base_names::NoMemory;
 use frac128::Frac;
 use model_data::Term;
+use std::alloc::Global;
+use std::cmp::Reverse;
+use std::collections::BTreeMap;
+use std::marker::Model;
 
-/// How many terms come before the variable.
-fn place_in(terms: &[Term], var: u32) -> usize
-    requires { AreRising terms.now }
-    ensures place { result ≡ length (take_while (λ t. nat_lt t.var var) terms.now) }
-    ensures within { result ≤ length terms.now }
-{
-    match terms.last() {
-        Some(last) if last.var >= var => terms.partition_point(|term| term.var < var),
-        _ => terms.len(),
-    }
+/// Terms that rise by variable.
+///
+/// A row may name its variables in any order, so they stand in a tree. The last variable is the tree's first key, since
+/// most rows name their variables in rising order, and a search in the tree goes over the keys of a node from its first on.
+#[derive(Drop)]
+pub(crate) struct Terms {
+    coefficients: BTreeMap<Reverse<u32>, Frac>,
 }
 
-/// Whether the term at the place is the variable's.
-fn is_term_of(terms: &[Term], at: usize, var: u32) -> bool
-    ensures { IsTrue result ↔ IsTermOf terms.now at var }
-{
-    match terms.get(at) {
-        Some(term) => term.var == var,
-        None => false,
-    }
+impl Model for Terms {
+    ghost use Rattle.std.specs.Prelude.{List};
+    ghost use Rattle.std.specs.BTreeMap.{IsOrdered};
+    ghost use Rattle.std.specs.Ordering.{nat_cmp};
+    ghost use Rattle.model_data.specs.declared.model.Term.{Term};
+    ghost use Rattle.lp_parse.specs.Terms.{terms_of};
+
+    ghost Value = { List Term };
+
+    ghost view = { λ terms. terms_of terms.coefficients.entries };
+
+    ghost invariant = { λ terms. IsOrdered (λ x y. nat_cmp y.0 x.0) terms.coefficients };
 }
 
-/// The coefficient of the variable, 0 where it has no term.
-pub(crate) fn coefficient_in(terms: &[Term], var: u32) -> Frac
-    requires { AreRising terms.now }
-    ensures { result ≡ coefficient_in var terms.now }
-{
-    match terms.get(place_in(terms, var)) {
-        Some(term) if term.var == var => term.coef,
-        _ => Frac::zero(),
-    }
-}
-
-/// How many terms there are with this coefficient of the variable.
-pub(crate) fn count_with(terms: &[Term], var: u32, coef: &Frac) -> usize
-    requires { AreRising terms.now }
-    ensures count { result ≡ length (with_coefficient var coef.now terms.now) }
-    ensures within { result ≤ length terms.now + 1 }
-{
-    let known = is_term_of(terms, place_in(terms, var), var);
-    match (known, coef.is_zero()) {
-        (true, true) => terms.len() - 1,
-        (true, false) | (false, true) => terms.len(),
-        (false, false) => terms.len() + 1,
-    }
-}
-
-/// Sets the coefficient of the variable. One of 0 leaves no term.
-pub(crate) fn set_coefficient(terms: &mut Vec<Term>, var: u32, coef: Frac) -> Result<(), NoMemory>
-    requires { AreRising terms.old.items }
-    ensures rising { AreRising terms.new.items }
-    ensures ok { OnOk result (terms.new.items ≡ with_coefficient var coef terms.old.items) }
-    ensures unchanged { OnErr result (terms.new.items ≡ terms.old.items) }
-{
-    let at = place_in(terms, var);
-    if is_term_of(terms, at, var) {
-        if coef.is_zero() {
-            terms.remove(at);
-        } else {
-            terms[at].coef = coef;
+impl Terms {
+    pub(crate) fn new(alloc: Global) -> Terms
+        ensures { result ≡ [] }
+    {
+        Terms {
+            coefficients: BTreeMap::new(alloc),
         }
-    } else if !coef.is_zero() {
-        terms.insert(at, Term { var, coef })?;
     }
-    Ok(())
+
+    pub(crate) fn len(&self) -> usize
+        ensures { result ≡ length self.now }
+    {
+        self.coefficients.len()
+    }
+
+    /// The coefficient of the variable, 0 where it has no term.
+    pub(crate) fn coefficient(&self, var: u32) -> Frac
+        ensures { result ≡ coefficient_in var self.now }
+    {
+        match self.coefficients.get(&Reverse(var)) {
+            Some(coef) => *coef,
+            None => Frac::zero(),
+        }
+    }
+
+    /// How many terms there are with this coefficient of the variable.
+    pub(crate) fn count_with(&self, var: u32, coef: &Frac) -> usize
+        ensures count { result ≡ length (with_coefficient var coef.now self.now) }
+        ensures within { result ≤ length self.now + 1 }
+    {
+        let count = self.coefficients.len();
+        let known = self.coefficients.contains_key(&Reverse(var));
+        match (known, coef.is_zero()) {
+            (true, true) => count - 1,
+            (true, false) | (false, true) => count,
+            (false, false) => count + 1,
+        }
+    }
+
+    /// Sets the coefficient of the variable. One of 0 leaves no term.
+    pub(crate) fn set_coefficient(&mut self, var: u32, coef: Frac) -> Result<(), NoMemory>
+        ensures ok { OnOk result (self.new ≡ with_coefficient var coef self.old) }
+        ensures unchanged { OnErr result (self.new ≡ self.old) }
+    {
+        if coef.is_zero() {
+            self.coefficients.remove(&Reverse(var));
+        } else {
+            self.coefficients.insert(Reverse(var), coef)?;
+        }
+        Ok(())
+    }
+
+    pub(crate) fn to_vec(&self, alloc: Global) -> Result<Vec<Term>, NoMemory>
+        ensures { IfOk result (λ terms. terms.items ≡ self.now) }
+    {
+        let mut terms = Vec::with_capacity(alloc, self.coefficients.len())?;
+        for (var, coef) in self.coefficients.iter().rev() {
+            terms.push(Term {
+                var: var.0,
+                coef: *coef,
+            })?;
+        }
+        Ok(terms)
+    }
 }

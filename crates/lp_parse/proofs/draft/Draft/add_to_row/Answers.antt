@@ -11,8 +11,8 @@ pub returns-then-not-has_room_for_term : goal.returns-then-not-has_room_for_term
 returns-then-not-has_room_for_term c =
     let u = c.args.self.now in
     let read =
-    c.coefficient_in-so_far.ensures
-    ∙ ap (coefficient_in c.var_place-var.result) (c.deref.ensures.value ∙ ap (λ (u : Unfinished). u.row.terms) c.self.view_is) in
+    c.coefficient-so_far.ensures
+    ∙ ap (coefficient_in c.var_place-var.result) (ap (λ (u : Unfinished). u.row.terms) c.self.view_is) in
     let row : OpenRow = record { title = u.row.title; terms = with_coefficient c.var_place-var.result c.in_ok-sum.sum c.mention.new.self.row.terms } in
     let terms = ap (λ (row : OpenRow). with_coefficient c.var_place-var.result c.in_ok-sum.sum row.terms) c.in_ok-mention.ensures.row in
     rw c.fault.ensures (
@@ -23,10 +23,10 @@ pub returns : goal.returns
 returns c =
     let u = c.args.self.now in
     let read =
-    c.coefficient_in-so_far.ensures
-    ∙ ap (coefficient_in c.var_place-var.result) (c.deref.ensures.value ∙ ap (λ (u : Unfinished). u.row.terms) c.self.view_is) in
+    c.coefficient-so_far.ensures
+    ∙ ap (coefficient_in c.var_place-var.result) (ap (λ (u : Unfinished). u.row.terms) c.self.view_is) in
     let shown = c.self-2.view_is in
-    let row : OpenRow = record { title = c.self-2.inside.title.items; terms = c.set_coefficient.new.terms.items } in
+    let row : OpenRow = record { title = c.self-2.inside.title.items; terms = c.set_coefficient.new.self } in
     let title = ap (λ (u : Unfinished). u.row.title) shown ∙ ap (λ (row : OpenRow). row.title) c.in_ok-mention.ensures.row in
     let set = c.in_ok-set_coefficient.ensures.ok ∙ ap (λ (u : Unfinished). with_coefficient c.var_place-var.result c.in_ok-sum.sum u.row.terms) shown in
     let terms = set ∙ ap (λ (row : OpenRow). with_coefficient c.var_place-var.result c.in_ok-sum.sum row.terms) c.in_ok-mention.ensures.row in

@@ -9,9 +9,9 @@ invariant_of-self-2 c =
     let draft = c.self.inside in
     let r : Row = record { name = c.of.result; sense = c.args.sense; rhs = c.args.rhs; terms = c.of-2.result } in
     let title : c.as_slice.result.now ≡ r.name = search rules in
-    let count : length draft.terms.items ≡ c.len.result = search rules in
+    let count : length draft.terms ≡ c.len.result = search rules in
     let rows = c.push_reserved.new.self.items in
-    let left = c.replace-terms.new.dest.items in
+    let left = c.new-2.result in
     subst (λ (n : ℕ). IsSound draft.vars.items draft.var_names rows c.add.new.self (draft.closed_terms + n) left) count
     (sound_row c.self.invariant r rows c.add.new.self left
     (c.push_reserved.ensures.items ∙ ap (λ (l : List Row). l ++ r ∷ []) c.reserve.ensures.items)
