@@ -1,0 +1,5 @@
+pub mod Cells
+pub mod Dense
+pub mod Dictionary
+pub mod Rule
+pub mod Solutions

@@ -1,0 +1,12 @@
+pub mod Bounds
+pub mod Cases
+pub mod Certificates
+pub mod Columns
+pub mod Ends
+pub mod LeafWeights
+pub mod Looks
+pub mod Path
+pub mod Plain
+pub mod Points
+pub mod StandardForm
+pub mod Values

@@ -1,0 +1,21 @@
+use Rattle.std.proofs.Common.{◌≡◌, ◌∙◌, ap, ap₂, subst, List, Result}
+use Rattle.frac128.specs.Fraction.{Fraction}
+use Rattle.frac128.specs.declared.operations.Wide.{Wide}
+use Rattle.solve_defs.specs.StandardForm.{point_back, point_value, shapes_of, values_from}
+use Rattle.std_form.specs.Outcome.{Meets}
+use Rattle.std_form.proofs.Exits.{told_fault, told_ok}
+use Rattle.std_form.proofs.point.point_back.Goals as goal
+
+pub returns-clause-ok : goal.returns-clause-ok
+unfolding point_back
+returns-clause-ok c =
+    let are : c.in_ok-columns.columns ≡ shapes_of c.args.m.now c.args.cuts.now.items = c.in_ok-columns.ensures ∙ ap (shapes_of c.args.m.now) c.as_slice.ensures.value in
+    told_ok _ _ _ (subst (λ (wanted : Result (List Fraction) Wide). Meets c.point.result (λ point. point.items) wanted)
+    (ap₂ (values_from point_value 0) are c.as_slice-2.ensures.value) c.point.ensures)
+
+pub returns-clause-fault : goal.returns-clause-fault
+unfolding point_back
+returns-clause-fault c =
+    let are : c.in_ok-columns.columns ≡ shapes_of c.args.m.now c.args.cuts.now.items = c.in_ok-columns.ensures ∙ ap (shapes_of c.args.m.now) c.as_slice.ensures.value in
+    told_fault _ _ _ (subst (λ (wanted : Result (List Fraction) Wide). Meets c.point.result (λ point. point.items) wanted)
+    (ap₂ (values_from point_value 0) are c.as_slice-2.ensures.value) c.point.ensures)

@@ -1,0 +1,4 @@
+pub mod Columns
+pub mod Cuts
+pub mod Outcome
+pub mod Shapes
