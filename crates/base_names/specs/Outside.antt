@@ -2,9 +2,13 @@
 use Rattle.std.specs.Prelude.{ℕ, ◌+◌, ◌-◌, ◌^◌, ◌≤◌, ◌≡◌, List, [], ◌++◌, Option, IfSome, min}
 use Rattle.std.specs.Option.{option_map}
 
+-- A count with one more, which stays at the end of its type.
+abbrev pub one_more : ℕ → ℕ
+one_more count = min (count + 1) (2 ^ 64 - 1)
+
 -- A count of faults rose, or it stands at the end of its type, where it can't rise.
 abbrev pub Rose : ℕ → ℕ → Type 0
-Rose before now = min (before + 1) (2 ^ 64 - 1) ≤ now
+Rose before now = one_more before ≤ now
 
 -- These bytes were read: where a source tells what it has left, it had these and then what is left
 -- now.

@@ -7,6 +7,7 @@ ghost use Rattle.base_names.specs.Decimal.{are_digits, below, decimal_of, is_dec
 
 use crate::memory::NoMemory;
 use crate::text::Text;
+use crate::writing::append;
 use std::alloc::Global;
 use std::str;
 
@@ -48,7 +49,9 @@ pub fn read_decimal(text: &[u8]) -> Option<u64>
 pub fn write_decimal(alloc: Global, number: u64) -> Result<Text, NoMemory>
     ensures { IfOk result (λ text. text ≡ decimal number) }
 {
-    Ok(Text::of(number.to_string(alloc)?.into_bytes()))
+    let mut text = Vec::new(alloc);
+    append(&mut text, number)?;
+    Ok(Text::of(text))
 }
 
 fn is_decimal(text: &[u8]) -> bool

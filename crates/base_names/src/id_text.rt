@@ -10,6 +10,7 @@ use crate::id::BatchId;
 use crate::memory::NoMemory;
 use crate::owner::Owner;
 use crate::text::Text;
+use crate::writing::append;
 use std::alloc::Global;
 use std::fmt;
 
@@ -29,9 +30,15 @@ pub fn write_id(alloc: Global, id: &BatchId) -> Result<Text, NoMemory>
     ensures text { IfOk result (λ text. text ≡ id_text id.now) }
     ensures read { IfOk result (λ text. id_of text ≡ Some id.now) }
 {
-    let BatchId { owner, number } = *id;
-    let text = format!(in alloc; "{}.{number}", owner.as_str())?;
-    Ok(Text::of(text.into_bytes()))
+    let BatchId {
+        owner,
+        number: _in_range,
+    } = *id;
+    // The proof of `read` learns from this call that the name is an owner's.
+    let _name = owner.as_bytes();
+    let mut text = Vec::new(alloc);
+    append(&mut text, id)?;
+    Ok(Text::of(text))
 }
 
 impl fmt::Display for BatchId {

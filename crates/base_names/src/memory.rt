@@ -1,13 +1,26 @@
 //! Want of memory as an answer.
 
-ghost use Rattle.std.specs.Prelude.{◌≡◌};
+ghost use Rattle.std.specs.Prelude.{◌≡◌, Some};
+ghost use Rattle.base_names.specs.Memory.{fault_or_memory_text, memory_text};
 
 use std::alloc::{AllocError, AllocFailed};
+use std::error::Error;
+use std::fmt;
 
 /// There was no memory for what was asked. Nothing else is said by it: what could not be stored is
 /// dropped.
 #[derive(Clone, Copy, Debug, PartialEq, Eq)]
 pub struct NoMemory;
+
+impl fmt::Display for NoMemory {
+    ghost output = { λ _. Some memory_text };
+
+    fn fmt<W: fmt::Write>(&self, f: &mut fmt::Formatter<W>) -> fmt::Result {
+        f.write_str("out of memory")
+    }
+}
+
+impl Error for NoMemory {}
 
 impl From<AllocError> for NoMemory {
     fn from(_error: AllocError) -> NoMemory {
@@ -27,6 +40,19 @@ pub enum OrMemory<S> {
     Fault(S),
     NoMemory,
 }
+
+impl<S: fmt::Display> fmt::Display for OrMemory<S> {
+    ghost output = { λ answer. fault_or_memory_text S.output answer };
+
+    fn fmt<W: fmt::Write>(&self, f: &mut fmt::Formatter<W>) -> fmt::Result {
+        match self {
+            OrMemory::Fault(fault) => write!(f, "{fault}"),
+            OrMemory::NoMemory => write!(f, "{NoMemory}"),
+        }
+    }
+}
+
+impl<S: Error> Error for OrMemory<S> {}
 
 impl<S> From<NoMemory> for OrMemory<S> {
     ghost use Rattle.base_names.specs.declared.memory.OrMemory.TheVariants.{NoMemory as no_memory};

@@ -7,7 +7,9 @@ use crate::memory::NoMemory;
 use crate::node::NodeNo;
 use crate::refusal::{FaultWord, OwnerLimit, Refusal};
 use crate::text::Text;
+use crate::writing::append;
 use std::alloc::Global;
+use std::error::Error;
 use std::fmt;
 
 impl fmt::Display for FaultWord {
@@ -70,9 +72,13 @@ impl fmt::Display for Refusal {
     }
 }
 
+impl Error for Refusal {}
+
 /// The text of a refusal, in one line and without its end.
 pub fn refusal_text(alloc: Global, refusal: &Refusal) -> Result<Text, NoMemory>
     ensures { IfOk result (λ text. text ≡ refusal_text refusal.now) }
 {
-    Ok(Text::of(refusal.to_string(alloc)?.into_bytes()))
+    let mut text = Vec::new(alloc);
+    append(&mut text, refusal)?;
+    Ok(Text::of(text))
 }

@@ -161,6 +161,20 @@ fn ids_are_read_and_written(rt: HostRuntime) -> Result<(), Fail> {
 }
 
 #[test]
+fn texts_are_written_onto_a_buffer(rt: HostRuntime) -> Result<(), Fail> {
+    let mut out = b"BATCH ".to_vec(rt.alloc())?;
+    let id = read_id(b"ada.12").ok_or("an ID")?;
+    append(&mut out, id)?;
+    append(&mut out, format_args!("\nBLOCK {}\n", 3))?;
+    append(&mut out, Refusal::SIZE)?;
+    assert_eq!(rt;
+        out.as_slice(),
+        b"BATCH ada.12\nBLOCK 3\nERR 10 SIZE".as_slice()
+    );
+    Ok(())
+}
+
+#[test]
 fn numbers_are_read_and_written(rt: HostRuntime) -> Result<(), Fail> {
     for (text, digits, decimal) in [
         (b"0".as_slice(), Some(0), Some(0)),
@@ -221,29 +235,31 @@ fn texts_are_lists_of_bytes(rt: HostRuntime) -> Result<(), Fail> {
     Ok(())
 }
 
-#[test]
-fn names_are_lists_of_bytes(rt: HostRuntime) -> Result<(), Fail> {
-    let bytes = b"y".as_slice();
-    let name = Name::of(bytes.to_vec(rt.alloc())?);
-    assert!(rt; name.as_bytes() == bytes);
-    assert!(rt; name.len() == 1 && !name.is_empty());
-    assert!(rt; is_copied(rt.alloc(), &name)?);
-    let copy = name.copy(rt.alloc())?;
-    assert!(rt; copy == name);
-    assert!(rt; copy.into_vec().as_slice() == bytes);
-    Ok(())
+fn label_is_a_list<Kind: Drop>(
+    alloc: Global,
+    label: Label<Kind>,
+    bytes: &[u8],
+) -> Result<bool, NoMemory> {
+    let copy = label.copy(alloc)?;
+    Ok(
+        label.as_bytes() == bytes
+            && label.len() == bytes.len()
+            && label.is_empty() == bytes.is_empty()
+            && is_copied(alloc, &label)?
+            && copy == label
+            && copy.into_vec().as_slice() == bytes,
+    )
 }
 
 #[test]
-fn tags_are_lists_of_bytes(rt: HostRuntime) -> Result<(), Fail> {
-    let bytes = b"z!".as_slice();
-    let tag = Tag::of(bytes.to_vec(rt.alloc())?);
-    assert!(rt; tag.as_bytes() == bytes);
-    assert!(rt; tag.len() == 2 && !tag.is_empty());
-    assert!(rt; is_copied(rt.alloc(), &tag)?);
-    let copy = tag.copy(rt.alloc())?;
-    assert!(rt; copy == tag);
-    assert!(rt; copy.into_vec().as_slice() == bytes);
+fn names_and_tags_are_lists_of_bytes(rt: HostRuntime) -> Result<(), Fail> {
+    let alloc = rt.alloc();
+    for bytes in [b"".as_slice(), b"y", b"z!\xff"] {
+        let name: Name = Name::of(bytes.to_vec(alloc)?);
+        let tag: Tag = Tag::of(bytes.to_vec(alloc)?);
+        assert!(rt; label_is_a_list(alloc, name, bytes)?);
+        assert!(rt; label_is_a_list(alloc, tag, bytes)?);
+    }
     Ok(())
 }
 
@@ -306,5 +322,9 @@ fn faults_stand_beside_want_of_memory(rt: HostRuntime) -> Result<(), Fail> {
     assert!(rt; kept(alloc, &Text::of(b"a".to_vec(alloc)?)).is_ok());
     assert_eq!(rt; OrMemory::<u8>::from(NoMemory), OrMemory::NoMemory);
     assert_eq!(rt; Refusal::from(NoMemory), Refusal::MEMORY);
+    let fault = OrMemory::Fault(Refusal::KEY);
+    assert_eq!(rt; fault.to_string(alloc)?.as_str(), "ERR 1 KEY");
+    let wanting = OrMemory::<Refusal>::NoMemory;
+    assert_eq!(rt; wanting.to_string(alloc)?.as_str(), "out of memory");
     Ok(())
 }

@@ -8,4 +8,4 @@ pub returns-clause-read : goal.returns-clause-read
 returns-clause-read c =
     let written : c.of.result ≡ id_text c.args.id.now = grind (arith, common_steps) in
     let small : c.args.id.now.number < 2 ^ 32 = omega arith in
-    ap id_of written ∙ written-read c.args.id.now (c.as_str.ensures.name, small)
+    ap id_of written ∙ written-read c.args.id.now (c.as_bytes-name.ensures.name, small)
