@@ -1,13 +1,15 @@
 //! The types of a model, of what a solve finds, and of batches.
 //!
 //! They are plain data that other crates read, change, solve and keep. What a lawful model is stands in
-//! `specs/Lawful.antt`, the ranges of parameters in `specs/Params.antt`, and the count of [`size`] in `specs/Size.antt`.
+//! `specs/Lawful.antt`, which texts name a variable or a row and which tag one ([`is_name`], [`is_tag`]) in
+//! `specs/Names.antt`, the ranges of parameters in `specs/Params.antt`, and the count of [`size`] in `specs/Size.antt`.
 //! Each type that is not `Copy` has a call `copy`, which gives an equal value.
 #![tactic(auto)]
 
 mod batch;
 mod limits;
 mod model;
+mod names;
 mod params;
 mod sizes;
 mod solution;
@@ -18,6 +20,7 @@ pub use limits::{
     MAX_SIZE, MAX_TAG_LEN, MAX_TERMS, MAX_VARS, MAX_WORK,
 };
 pub use model::{Direction, Model, Row, Sense, Term, Var, VarKind};
+pub use names::{is_name, is_tag};
 pub use params::Params;
 pub use sizes::size;
 pub use solution::{Cert, CertNode, NodeEvent, Outcome, Point, SolEvent, Weight, Weights, WideAt};
