@@ -59,8 +59,9 @@ nat_cmp-zero r s b d b_some d_some =
     (λ h. omega (arith, ap (λ n. n * b) e, ap (λ n. n * d) (h ∙ e)))
     (λ h. let up_r : 0 < r * d = mul-pos (omega arith) d_some in omega (arith, ap (λ n. n * b) e)))
 
-pub nat_cmp-inverses : (a b c d : ℕ) → nat_cmp (d * (a % b)) (b * (c % d)) ≡ nat_cmp (a % b * d) (c % d * b)
-nat_cmp-inverses a b c d = ap₂ nat_cmp (mul_comm d (a % b)) (mul_comm b (c % d))
+-- the same with each product turned
+pub nat_cmp-turned : (a b c d : ℕ) → nat_cmp (d * a) (b * c) ≡ nat_cmp (a * d) (c * b)
+nat_cmp-turned a b c d = ap₂ nat_cmp (mul_comm d a) (mul_comm b c)
 
 -- ---- the same with a sign
 

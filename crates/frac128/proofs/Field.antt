@@ -6,6 +6,7 @@ use Rattle.std.proofs.Math.Nat.{mul-one, mul-pos, mul_comm, mul_assoc, one-dvd}
 use Rattle.std.proofs.lemmas.Int.{ints}
 use Rattle.std.proofs.lemmas.Nat.Gcd.{IsGcd-swap}
 use Rattle.frac128.specs.Fraction.{Fraction, den, lowest, zero_value, one_value, negation, inverse, exact_sum, exact_difference, exact_product, exact_quotient}
+use Rattle.frac128.specs.Lowest.{IsInLowestTerms}
 use Rattle.frac128.specs.Numbers.{is_below_zero, signed}
 use Rattle.frac128.proofs.Integers.{*ℤ_assoc, *ℤ_comm, add-mul, add_comm, mul-mul_comm, mul-mul_pos, mul_pos-mul, neg-add, neg-mul, neg-neg, size-neg, size-signed, size_above_zero}
 use Rattle.frac128.proofs.Seen.{fraction-eta, low_apart, low_cross, low_den, low_den_above_zero, low_num, lowest-same, lowest_is, den-fraction}
@@ -25,20 +26,20 @@ pub lowest-cross : (n : ℤ) (d : ℕ) → 0 < d → (lowest n d).num *ℤ pos d
 lowest-cross n d some =
     ap (λ z. z *ℤ pos d) (num-lowest n d) ∙ low_cross n d ∙ ap (λ k. n *ℤ pos k) (sym (den-lowest n d some))
 
-pub lowest-apart : (n : ℤ) (d : ℕ) → 0 < d → IsGcd (unsigned_abs (lowest n d).num) (den (lowest n d)) 1
+pub lowest-apart : (n : ℤ) (d : ℕ) → 0 < d → IsInLowestTerms (lowest n d)
 lowest-apart n d some =
     subst (λ k. IsGcd (unsigned_abs (lowest n d).num) k 1) (sym (den-lowest n d some))
     (subst (λ z. IsGcd (unsigned_abs z) (low_den n d) 1) (sym (num-lowest n d)) (low_apart n d some))
 
 -- a fraction in lowest terms is its own
-pub lowest-self : (x : Fraction) → IsGcd (unsigned_abs x.num) (den x) 1 → lowest x.num (den x) ≡ x
+pub lowest-self : (x : Fraction) → IsInLowestTerms x → lowest x.num (den x) ≡ x
 lowest-self x apart = sym (lowest_is x.num x.num (den x) (den x) (omega arith) (omega arith) apart refl) ∙ fraction-eta x
 
-pub apart_of-sum : (x y : Fraction) → IsGcd (unsigned_abs (exact_sum x y).num) (den (exact_sum x y)) 1
+pub apart_of-sum : (x y : Fraction) → IsInLowestTerms (exact_sum x y)
 unfolding exact_sum
 apart_of-sum x y = lowest-apart _ (den x * den y) (mul-pos (omega arith) (omega arith))
 
-pub apart_of-product : (x y : Fraction) → IsGcd (unsigned_abs (exact_product x y).num) (den (exact_product x y)) 1
+pub apart_of-product : (x y : Fraction) → IsInLowestTerms (exact_product x y)
 unfolding exact_product
 apart_of-product x y = lowest-apart _ (den x * den y) (mul-pos (omega arith) (omega arith))
 
@@ -162,19 +163,19 @@ exact_product-sum_right x y z =
 
 -- ---- 0 and 1
 
-lowest-zero : (d : ℕ) → 0 < d → lowest (pos 0) d ≡ zero_value
-lowest-zero d some = sym (lowest_is (pos 0) (pos 0) 1 d (omega arith) some apart (omega (arith, ints)))
-  where
-    apart : IsGcd 0 1 1
-    apart = (one-dvd 0, one-dvd 1, λ k p q. q)
+pub apart_of-zero : IsInLowestTerms zero_value
+apart_of-zero = (one-dvd 0, one-dvd 1, λ k p q. q)
+
+pub apart_of-one : IsInLowestTerms one_value
+apart_of-one = (one-dvd 1, one-dvd 1, λ k p q. q)
+
+pub lowest-zero : (d : ℕ) → 0 < d → lowest (pos 0) d ≡ zero_value
+lowest-zero d some = sym (lowest_is (pos 0) (pos 0) 1 d (omega arith) some apart_of-zero (omega (arith, ints)))
 
 lowest-one : (d : ℕ) → 0 < d → lowest (pos d) d ≡ one_value
-lowest-one d some = sym (lowest_is (pos 1) (pos d) 1 d (omega arith) some apart (omega (arith, ints)))
-  where
-    apart : IsGcd 1 1 1
-    apart = (one-dvd 1, one-dvd 1, λ k p q. q)
+lowest-one d some = sym (lowest_is (pos 1) (pos d) 1 d (omega arith) some apart_of-one (omega (arith, ints)))
 
-pub exact_sum-zero_right : (x : Fraction) → IsGcd (unsigned_abs x.num) (den x) 1 → exact_sum x zero_value ≡ x
+pub exact_sum-zero_right : (x : Fraction) → IsInLowestTerms x → exact_sum x zero_value ≡ x
 unfolding exact_sum
 exact_sum-zero_right x apart =
     ap₂ lowest (ends x.num (den x)) (mul-one (den x)) ∙ lowest-self x apart
@@ -182,7 +183,7 @@ exact_sum-zero_right x apart =
     ends : (a : ℤ) (b : ℕ) → a *ℤ pos 1 +ℤ pos 0 *ℤ pos b ≡ a
     ends a b = omega (arith, ints)
 
-pub exact_sum-zero_left : (x : Fraction) → IsGcd (unsigned_abs x.num) (den x) 1 → exact_sum zero_value x ≡ x
+pub exact_sum-zero_left : (x : Fraction) → IsInLowestTerms x → exact_sum zero_value x ≡ x
 exact_sum-zero_left x apart = exact_sum_comm zero_value x ∙ exact_sum-zero_right x apart
 
 pub exact_product-zero_right : (x : Fraction) → exact_product x zero_value ≡ zero_value
@@ -195,14 +196,14 @@ exact_product-zero_right x = ap (λ n. lowest n (den x * 1)) (none x.num) ∙ lo
 pub exact_product-zero_left : (x : Fraction) → exact_product zero_value x ≡ zero_value
 exact_product-zero_left x = exact_product_comm zero_value x ∙ exact_product-zero_right x
 
-pub exact_product-one_right : (x : Fraction) → IsGcd (unsigned_abs x.num) (den x) 1 → exact_product x one_value ≡ x
+pub exact_product-one_right : (x : Fraction) → IsInLowestTerms x → exact_product x one_value ≡ x
 unfolding exact_product
 exact_product-one_right x apart = ap₂ lowest (same x.num) (mul-one (den x)) ∙ lowest-self x apart
   where
     same : (a : ℤ) → a *ℤ pos 1 ≡ a
     same a = omega (arith, ints)
 
-pub exact_product-one_left : (x : Fraction) → IsGcd (unsigned_abs x.num) (den x) 1 → exact_product one_value x ≡ x
+pub exact_product-one_left : (x : Fraction) → IsInLowestTerms x → exact_product one_value x ≡ x
 exact_product-one_left x apart = exact_product_comm one_value x ∙ exact_product-one_right x apart
 
 -- ---- negations
@@ -213,7 +214,7 @@ negation-negation x = ap (λ (n : ℤ). let y : Fraction = record { num = n; bel
 pub lowest-neg : (n : ℤ) (d : ℕ) → 0 < d → lowest (neg_ℤ n) d ≡ negation (lowest n d)
 lowest-neg n d some =
     let x = negation (lowest n d) in
-    let apart : IsGcd (unsigned_abs x.num) (den x) 1 = subst (λ k. IsGcd k (den x) 1) (sym (size-neg (lowest n d).num)) (lowest-apart n d some) in
+    let apart : IsInLowestTerms x = subst (λ k. IsGcd k (den x) 1) (sym (size-neg (lowest n d).num)) (lowest-apart n d some) in
     let cross : x.num *ℤ pos d ≡ neg_ℤ n *ℤ pos (den x) =
     neg-mul (lowest n d).num (pos d) ∙ ap neg_ℤ (lowest-cross n d some) ∙ sym (neg-mul n (pos (den x))) in
     sym (lowest_is x.num (neg_ℤ n) (den x) d (omega arith) some apart cross) ∙ fraction-eta x
@@ -243,7 +244,7 @@ exact_product-negation_right x y =
     exact_product_comm x (negation y) ∙ exact_product-negation_left y x ∙ ap negation (exact_product_comm y x)
 
 -- what is taken away and given back
-pub exact_difference-sum : (x y : Fraction) → IsGcd (unsigned_abs x.num) (den x) 1 → exact_sum (exact_difference x y) y ≡ x
+pub exact_difference-sum : (x y : Fraction) → IsInLowestTerms x → exact_sum (exact_difference x y) y ≡ x
 exact_difference-sum x y apart =
     exact_sum_assoc x (negation y) y
     ∙ ap (exact_sum x) (exact_sum_comm (negation y) y ∙ exact_sum-negation y)
@@ -271,13 +272,13 @@ exact_product-inverse x some =
     ∙ lowest-one (den x * unsigned_abs x.num) (mul-pos (omega arith) (size_above_zero x.num some))
 
 -- what is divided and multiplied again
-pub exact_quotient-product : (x y : Fraction) → IsGcd (unsigned_abs x.num) (den x) 1 → y.num ≢ pos 0 → exact_product (exact_quotient x y) y ≡ x
+pub exact_quotient-product : (x y : Fraction) → IsInLowestTerms x → y.num ≢ pos 0 → exact_product (exact_quotient x y) y ≡ x
 exact_quotient-product x y apart some =
     exact_product_assoc x (inverse y) y
     ∙ ap (exact_product x) (exact_product_comm (inverse y) y ∙ exact_product-inverse y some)
     ∙ exact_product-one_right x apart
 
-pub inverse_apart : (x : Fraction) → x.num ≢ pos 0 → IsGcd (unsigned_abs x.num) (den x) 1 → IsGcd (unsigned_abs (inverse x).num) (den (inverse x)) 1
+pub inverse_apart : (x : Fraction) → x.num ≢ pos 0 → IsInLowestTerms x → IsInLowestTerms (inverse x)
 inverse_apart x some apart =
     subst (λ k. IsGcd (unsigned_abs (inverse x).num) k 1) (sym (den-inverse x some))
     (subst (λ k. IsGcd k (unsigned_abs x.num) 1) (sym (ap unsigned_abs (num-inverse x) ∙ size-signed (is_below_zero x.num) (den x)))

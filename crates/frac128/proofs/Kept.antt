@@ -13,7 +13,7 @@ use Rattle.frac128.specs.Lowest.{IsKept, IsLowest}
 use Rattle.frac128.specs.Numbers.{gcd, is_below_zero, limit, signed}
 use Rattle.frac128.specs.Parts.{FitsScaledSum}
 use Rattle.frac128.proofs.Divisors.{cross_div, gcd-divides, gcd_comm, gcd_is}
-use Rattle.frac128.proofs.Field.{den-inverse, inverse_apart, num-inverse}
+use Rattle.frac128.proofs.Field.{apart_of-one, apart_of-zero, den-inverse, inverse_apart, num-inverse}
 use Rattle.frac128.proofs.Fitting.{FitsProduct-is, FitsSum-is}
 use Rattle.frac128.proofs.Integers.{add_comm, size-neg, size-signed}
 use Rattle.frac128.proofs.Results.{IsLowest-product, IsLowest-sum, exact_product-parts, exact_sum-parts, product_den, product_size, sum_den, sum_divisor, sum_num}
@@ -66,10 +66,10 @@ pub IsKept-quotient : (x y : Fraction) → y.num ≢ pos 0 → IsKept x → IsKe
 IsKept-quotient x y some own others fits = IsKept-product x (inverse y) own (IsKept-inverse y some others) fits
 
 pub IsKept-zero : IsKept zero_value
-IsKept-zero = record { nothing_in_common = (one-dvd 0, one-dvd 1, λ k p q. q); num_fits = omega arith; den_fits = omega arith }
+IsKept-zero = record { nothing_in_common = apart_of-zero; num_fits = omega arith; den_fits = omega arith }
 
 pub IsKept-one : IsKept one_value
-IsKept-one = record { nothing_in_common = (one-dvd 1, one-dvd 1, λ k p q. q); num_fits = omega arith; den_fits = omega arith }
+IsKept-one = record { nothing_in_common = apart_of-one; num_fits = omega arith; den_fits = omega arith }
 
 -- ---- what fits in either order
 

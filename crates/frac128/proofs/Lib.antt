@@ -1,3 +1,4 @@
+pub mod Chains
 pub mod Comparison
 pub mod Divisors
 pub mod Field
@@ -8,3 +9,4 @@ pub mod OddPair
 pub mod Ordered
 pub mod Results
 pub mod Seen
+pub mod Sums

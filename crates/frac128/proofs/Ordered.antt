@@ -1,12 +1,12 @@
 -- The order of fractions by value, and what sums and products do to it.
 use Rattle.std.proofs.Common.{◌≡◌, ◌↔◌, ◌⊎◌, inl, inr, refl, sym, ◌∙◌, ap, ap₂, subst, subst₂, ℕ, ◌*◌, ◌<◌, ℤ, pos, negsuc, ◌+ℤ◌, ◌*ℤ◌, neg_ℤ, Ordering, Less, Equal, Greater, arith}
-use Rattle.std.specs.Prelude.{◌<ℤ◌, ◌≤ℤ◌, unsigned_abs}
-use Rattle.std.specs.Int.{IsGcd}
+use Rattle.std.specs.Prelude.{◌<ℤ◌, ◌≤ℤ◌}
 use Rattle.std.specs.Ordering.{MatchOrdering}
 use Rattle.std.specs.Cmp.{int_cmp_is, int_ranked}
 use Rattle.std.proofs.Math.Nat.{mul-pos, mul_comm}
 use Rattle.std.proofs.lemmas.Int.{by_lt_z, ints}
 use Rattle.frac128.specs.Fraction.{exact_difference, Fraction, den, lowest, zero_value, negation, exact_sum, exact_product}
+use Rattle.frac128.specs.Lowest.{IsInLowestTerms}
 use Rattle.frac128.specs.Order.{IsAtMost, IsBelow, order_of}
 use Rattle.frac128.proofs.Field.{exact_difference-sum, exact_sum-negation, exact_sum-zero_left, exact_sum_comm, exact_product-negation_right, lowest-cross, lowest-self, negation-negation}
 use Rattle.frac128.proofs.Integers.{add-mul, le-mul_pos, le_of_mul_pos, lt-mul_pos, lt_of_mul_pos, mul-mul_comm, mul-mul_pos, neg-mul}
@@ -64,11 +64,11 @@ IsAtMost_total x y =
     by_lt_z (x.num *ℤ pos (den y)) (y.num *ℤ pos (den x)) (λ less. inl record { at_most = omega (arith, ints, less) }) (λ most. inr record { at_most = most })
 
 -- equal cross products of fractions in lowest terms
-pub same_from_cross : (x y : Fraction) → IsGcd (unsigned_abs x.num) (den x) 1 → IsGcd (unsigned_abs y.num) (den y) 1 → x.num *ℤ pos (den y) ≡ y.num *ℤ pos (den x) → x ≡ y
+pub same_from_cross : (x y : Fraction) → IsInLowestTerms x → IsInLowestTerms y → x.num *ℤ pos (den y) ≡ y.num *ℤ pos (den x) → x ≡ y
 same_from_cross x y left right cross =
     sym (lowest-self x left) ∙ lowest-same x.num y.num (den x) (den y) (omega arith) (omega arith) cross ∙ lowest-self y right
 
-pub IsAtMost_antisymm : (x y : Fraction) → IsGcd (unsigned_abs x.num) (den x) 1 → IsGcd (unsigned_abs y.num) (den y) 1 → IsAtMost x y → IsAtMost y x → x ≡ y
+pub IsAtMost_antisymm : (x y : Fraction) → IsInLowestTerms x → IsInLowestTerms y → IsAtMost x y → IsAtMost y x → x ≡ y
 IsAtMost_antisymm x y left right h k =
     let one = h.at_most in
     let other = k.at_most in
@@ -96,7 +96,7 @@ order_of-greater x y = (
   λ h. sym (int_cmp_is (x.num *ℤ pos (den y)) (y.num *ℤ pos (den x)) Greater h.below),
 )
 
-pub order_of-equal : (x y : Fraction) → IsGcd (unsigned_abs x.num) (den x) 1 → IsGcd (unsigned_abs y.num) (den y) 1 → (order_of x y ≡ Equal) ↔ (x ≡ y)
+pub order_of-equal : (x y : Fraction) → IsInLowestTerms x → IsInLowestTerms y → (order_of x y ≡ Equal) ↔ (x ≡ y)
 order_of-equal x y left right = (
   λ e. same_from_cross x y left right (subst (λ r. MatchOrdering r (IsBelow x y) (x.num *ℤ pos (den y) ≡ y.num *ℤ pos (den x)) (IsBelow y x)) e (order_of-tells x y)),
   λ e. sym (int_cmp_is (x.num *ℤ pos (den y)) (y.num *ℤ pos (den x)) Equal (ap₂ (λ (p q : Fraction). p.num *ℤ pos (den q)) e (sym e))),
@@ -187,7 +187,7 @@ pub IsAtMost-difference : (x y : Fraction) → IsAtMost x y → IsAtMost zero_va
 IsAtMost-difference x y h =
     subst (λ z. IsAtMost z (exact_difference y x)) (exact_sum-negation x) (IsAtMost-sum x y (negation x) h)
 
-pub IsAtMost_of-difference : (x y : Fraction) → IsGcd (unsigned_abs x.num) (den x) 1 → IsGcd (unsigned_abs y.num) (den y) 1 → IsAtMost zero_value (exact_difference y x) → IsAtMost x y
+pub IsAtMost_of-difference : (x y : Fraction) → IsInLowestTerms x → IsInLowestTerms y → IsAtMost zero_value (exact_difference y x) → IsAtMost x y
 IsAtMost_of-difference x y left right h =
     subst₂ IsAtMost (exact_sum-zero_left x left) (exact_difference-sum y x right) (IsAtMost-sum zero_value (exact_difference y x) x h)
 

@@ -41,6 +41,14 @@ IsLowest-reduced n d some num_fits den_fits = record {
   den_fits = den_fits;
 }
 
+-- a number with a sign over d, both without what they have in common
+pub reduced-parts : (s : Bool) (n d : ℕ) → 0 < d → fraction (signed s (n / gcd n d)) (d / gcd n d) ≡ lowest (signed s n) d
+reduced-parts s n d some =
+    let g = gcd n d in
+    let divides = gcd-divides n d in
+    lowest_from_sizes s (n / g) (d / g) (signed s n) d (ap (signed s) (size-signed s n)) (div_above_zero d g divides.1 some) some
+    (IsGcd-divided n d g some divides) (cross_div n d g divides.0 divides.1 ∙ ap (λ k. k * (d / g)) (sym (size-signed s n)))
+
 -- ---- a product of a over b and c over d
 
 pub product_apart : (a c b d : ℕ) → 0 < b → 0 < d → IsGcd a b 1 → IsGcd c d 1 → IsGcd (a / gcd a d * (c / gcd c b)) (b / gcd c b * (d / gcd a d)) 1

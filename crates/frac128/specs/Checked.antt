@@ -28,3 +28,15 @@ infixl 10 ◌>>=◌
 abbrev pub ◌>>=◌ : {A B E : Type 0} → Result A E → (A → Result B E) → Result B E
 ◌>>=◌ (Ok a) f = f a
 ◌>>=◌ (Err e) f = Err e
+
+-- x - f * y
+abbrev pub less_product : Fraction → Fraction → Fraction → Result Fraction Wide
+less_product f x y = do
+  product ← checked_product f y
+  checked_difference x product
+
+-- x + f * y
+abbrev pub plus_product : Fraction → Fraction → Fraction → Result Fraction Wide
+plus_product f x y = do
+  product ← checked_product f y
+  checked_sum x product

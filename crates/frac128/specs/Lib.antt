@@ -5,3 +5,4 @@ pub mod Lowest
 pub mod Numbers
 pub mod Order
 pub mod Parts
+pub mod Text

@@ -1,15 +1,16 @@
 //! The type of a fraction, and its operations.
-ghost use Rattle.std.specs.Prelude.{◌≡◌, ◌≢◌, ◌↔◌, IsTrue, pos, unsigned_abs};
+ghost use Rattle.std.specs.Prelude.{◌≡◌, ◌≢◌, ◌↔◌, ◌<◌, IsTrue, pos, unsigned_abs};
 ghost use Rattle.std.specs.Option.{SomeIff};
 ghost use Rattle.frac128.specs.Fits.{FitsDifference, FitsProduct, FitsQuotient, FitsReduced, FitsSum};
-ghost use Rattle.frac128.specs.Fraction.{den, exact_difference, exact_product, exact_quotient, exact_sum, fraction, inverse, negation, one_value, quotient, zero_value};
+ghost use Rattle.frac128.specs.Fraction.{den, exact_difference, exact_product, exact_quotient, exact_sum, fraction, inverse, lowest, negation, one_value, quotient, zero_value};
 ghost use Rattle.frac128.specs.Lowest.{IsKept, IsLowest};
 ghost use Rattle.frac128.specs.Order.{IsCeil, IsFloor, order_of};
-ghost use Rattle.frac128.specs.Numbers.{signed};
+ghost use Rattle.frac128.specs.Numbers.{limit, signed};
 
 use crate::divisor::gcd;
-use crate::euclid::cmp_quotients;
-use crate::parts::{LIMIT, divided, product_in, reduced_parts, scaled_sum, signed, whole_and_rest};
+use crate::euclid::cmp_rests;
+use crate::limits::LIMIT;
+use crate::parts::{divided, product_in, reduced_parts, scaled_sum, signed, whole_and_rest};
 use std::cmp::Ordering;
 use std::marker::Model;
 
@@ -50,6 +51,17 @@ impl Frac {
             return None;
         }
         Some(Frac::from_parts((num < 0) != (den < 0), size, den_size))
+    }
+
+    /// `size / den` with this sign, in lowest terms.
+    pub fn reduced(is_negative: bool, size: u128, den: u128) -> Frac
+        requires size_fits { size < limit }
+        requires den_fits { den < limit }
+        requires den_above_zero { 0 < den }
+        ensures { result ≡ lowest (signed is_negative size) den }
+    {
+        let (size, den) = reduced_parts(size, den);
+        Frac::from_parts(is_negative, size, den)
     }
 
     pub fn zero() -> Frac
@@ -127,7 +139,7 @@ impl Frac {
         if whole != other_whole {
             return whole.cmp(&other_whole);
         }
-        cmp_quotients(rest, self.den, other_rest, other.den)
+        cmp_rests(rest, self.den, other_rest, other.den)
     }
 
     /// The sum; None exactly where a part that is formed on the way is at or past 2^127 in size.

@@ -7,7 +7,7 @@ ghost use Rattle.std.specs.Int.{IsGcd};
 ghost use Rattle.std.specs.declared.cmp.Ordering.TheVariants.{Equal, Greater, Less};
 ghost use Rattle.frac128.specs.Fits.{FitsDifference, FitsProduct, FitsQuotient, FitsSum};
 ghost use Rattle.frac128.specs.Fraction.{Fraction, den, exact_difference, exact_product, exact_quotient, exact_sum, inverse, lowest, negation, one_value, zero_value};
-ghost use Rattle.frac128.specs.Lowest.{IsKept};
+ghost use Rattle.frac128.specs.Lowest.{IsInLowestTerms, IsKept};
 ghost use Rattle.frac128.specs.Numbers.{gcd};
 ghost use Rattle.frac128.specs.Order.{IsAtMost, IsBelow, order_of};
 
@@ -87,9 +87,9 @@ pub fn lowest_terms()
     ensures value { (n : ℤ) (d : ℕ) → 0 < d
         → (lowest n d).num *ℤ pos d ≡ n *ℤ pos (den (lowest n d)) }
     ensures nothing_in_common { (n : ℤ) (d : ℕ) → 0 < d
-        → IsGcd (unsigned_abs (lowest n d).num) (den (lowest n d)) 1 }
-    ensures sum { (x y : Fraction) → IsGcd (unsigned_abs (exact_sum x y).num) (den (exact_sum x y)) 1 }
-    ensures product { (x y : Fraction) → IsGcd (unsigned_abs (exact_product x y).num) (den (exact_product x y)) 1 }
+        → IsInLowestTerms (lowest n d) }
+    ensures sum { (x y : Fraction) → IsInLowestTerms (exact_sum x y) }
+    ensures product { (x y : Fraction) → IsInLowestTerms (exact_product x y) }
 {}
 
 /// The order by value is total, and equal kept values are one.

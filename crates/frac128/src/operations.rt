@@ -26,21 +26,30 @@ impl Frac {
     pub fn checked_add(&self, other: &Frac) -> Result<Frac, Wide>
         ensures { result ≡ checked_sum self.now other.now }
     {
-        self.add(other).ok_or(self.refused(Op::Add, other))
+        match self.add(other) {
+            Some(sum) => Ok(sum),
+            None => Err(self.refused(Op::Add, other)),
+        }
     }
 
     /// `sub`, with what did not fit.
     pub fn checked_sub(&self, other: &Frac) -> Result<Frac, Wide>
         ensures { result ≡ checked_difference self.now other.now }
     {
-        self.sub(other).ok_or(self.refused(Op::Sub, other))
+        match self.sub(other) {
+            Some(difference) => Ok(difference),
+            None => Err(self.refused(Op::Sub, other)),
+        }
     }
 
     /// `mul`, with what did not fit.
     pub fn checked_mul(&self, other: &Frac) -> Result<Frac, Wide>
         ensures { result ≡ checked_product self.now other.now }
     {
-        self.mul(other).ok_or(self.refused(Op::Mul, other))
+        match self.mul(other) {
+            Some(product) => Ok(product),
+            None => Err(self.refused(Op::Mul, other)),
+        }
     }
 
     /// `div`, with what did not fit.
@@ -48,7 +57,10 @@ impl Frac {
         requires { other.now.num ≢ pos 0 }
         ensures { result ≡ checked_quotient self.now other.now }
     {
-        self.div(other).ok_or(self.refused(Op::Div, other))
+        match self.div(other) {
+            Some(quotient) => Ok(quotient),
+            None => Err(self.refused(Op::Div, other)),
+        }
     }
 
     fn refused(&self, op: Op, other: &Frac) -> Wide

@@ -5,9 +5,7 @@ ghost use Rattle.frac128.specs.Numbers.{gcd, limit, signed};
 ghost use Rattle.frac128.specs.Parts.{FitsScaledSum};
 
 use crate::divisor::{NARROW, gcd};
-
-/// What no part of a fraction reaches in size.
-pub(crate) const LIMIT: u128 = 1 << 127;
+use crate::limits::LIMIT;
 
 /// The number with this sign and size.
 pub(crate) fn signed(is_negative: bool, size: u128) -> i128

@@ -31,6 +31,6 @@ returns c =
     let same : c.whole_and_rest-other_whole.result.0 ≡ c.whole_and_rest-whole.result.0 =
     sym other_whole ∙ ap (to_z w128) (sym c.if-whole-other_whole.false) ∙ whole in
     let other_parts_too = rw same at other_parts in
-    let made = rw (own.den, others.den) at c.cmp_quotients.ensures in
+    let made = rw (own.den, others.den) at c.cmp_rests.ensures in
     made
     ∙ int_cmp-rests c.whole_and_rest-whole.result.0 c.args.self.now.num c.args.other.now.num _ _ (den c.args.self.now) (den c.args.other.now) parts other_parts_too
