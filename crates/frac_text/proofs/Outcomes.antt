@@ -1,47 +1,22 @@
 -- What parts are read as, by cases on what fits.
-use Rattle.std.proofs.Common.{zero, IsTrue, ◌↔◌, ◌≡◌, refl, ◌∙◌, ap, ap₂, ℕ, suc, ◌+◌, ◌-◌, ◌*◌, ◌/◌, ◌%◌, ◌^◌, ◌<◌, ◌≤◌, Bool, true, false, arith, ◌==◌, if◌then◌else◌, ℤ, pos, negsuc, ◌+ℤ◌, ◌<ℤ◌, Ok, Err}
+use Rattle.std.proofs.Common.{zero, IsTrue, ◌↔◌, ◌≡◌, refl, ◌∙◌, ap, ℕ, suc, ◌+◌, ◌*◌, ◌^◌, ◌<◌, ◌≤◌, Bool, true, false, arith, if◌then◌else◌, ℤ, pos, negsuc, ◌+ℤ◌, ◌<ℤ◌, Ok, Err}
 use Rattle.std.proofs.lemmas.Bool.Decides.{nat_tests}
 use Rattle.std.proofs.lemmas.Int.{ints}
 use Rattle.std.proofs.lemmas.Nat.{pow-add}
-use Rattle.std.proofs.Math.Nat.{mul-le-mul_left, zero-mul, zero-mod, zero-div, div-le_self, div_self}
-use Rattle.std.proofs.Math.Dec.{eqb-suc-zero}
-use Rattle.frac128.specs.Fraction.{Fraction, lowest, zero_value}
-use Rattle.frac128.specs.Fits.{FitsReduced, reduced_fits}
-use Rattle.std.specs.Cmp.Derive.{both_true}
-use Rattle.frac128.specs.Numbers.{gcd, gcd_within, limit, is_below_limit, signed}
+use Rattle.std.proofs.Math.Nat.{mul-le-mul_left, zero-mul}
+use Rattle.frac128.specs.Fraction.{lowest, zero_value}
+use Rattle.frac128.specs.Numbers.{signed}
 use Rattle.frac_text.specs.declared.fault.NumFault.TheVariants.{TooWide}
-use Rattle.frac_text.specs.Number.{Parts, FitsParts, is_too_wide, is_huge, huge_size, outcome_of, value_of, tens_over, tens_under}
+use Rattle.frac128.specs.declared.limits.TheConstants.{HUGE}
+use Rattle.frac_text.specs.Number.{Parts, FitsParts, is_too_wide, is_huge, outcome_of, value_of, tens_over, tens_under}
+use Rattle.frac128.proofs.Field.{lowest-zero}
 use Rattle.frac_text.proofs.Runs.{ten_pos}
 use Rattle.frac_text.proofs.Sizes.{IsSized, sized_reaches, sized_reached, sized-times}
 
-picked : (b : Bool) (x y : ℕ) → b ≡ false → (elim b [ true ↦ x | false ↦ y ]) ≡ y
-picked true x y h = absurd cc
-picked false x y h = refl
-
--- 0 over anything is 0
-gcd-zero : (d : ℕ) → gcd 0 (suc d) ≡ suc d
-unfolding gcd gcd_within
-gcd-zero zero = refl
-gcd-zero (suc d) =
-    let n : ℕ = suc (suc d) in
-    picked (n == 0) 0 (gcd_within (suc d) n (0 % n)) (eqb-suc-zero (suc d)) ∙ ap (gcd_within (suc d) n) (zero-mod n)
-
-lowest-zero : (d : ℕ) → lowest (pos 0) (suc d) ≡ zero_value
-unfolding lowest
-lowest-zero d =
-    let g = gcd-zero d in
-    let over : 0 / gcd 0 (suc d) ≡ 0 = zero-div (gcd 0 (suc d)) in
-    let under : suc d / gcd 0 (suc d) - 1 ≡ 0 = ap (λ m. suc d / m - 1) g ∙ ap (λ m. m - 1) (div_self (omega arith)) in
-    let one : ℕ → ℕ → Fraction = λ n m. record { num = pos n; below = m } in
-    ap₂ one over under
-
 lowest_of_zero : (negative : Bool) (over under : ℕ) → over ≡ 0 → 0 < under → lowest (signed negative over) under ≡ zero_value
 lowest_of_zero negative over zero e h = absurd (omega arith)
-lowest_of_zero true over (suc d) e h = ap (λ n. lowest (signed true n) (suc d)) e ∙ lowest-zero d
-lowest_of_zero false over (suc d) e h = ap (λ n. lowest (signed false n) (suc d)) e ∙ lowest-zero d
-
-below : (m n : ℕ) → m ≤ n → n < limit → is_below_limit m ≡ true
-below m n h k = grind (arith, nat_tests)
+lowest_of_zero true over (suc d) e h = ap (λ n. lowest (signed true n) (suc d)) e ∙ lowest-zero (suc d) h
+lowest_of_zero false over (suc d) e h = ap (λ n. lowest (signed false n) (suc d)) e ∙ lowest-zero (suc d) h
 
 -- each test as a fact
 by_test : (p : Parts) (b : Bool) → is_too_wide p ≡ b → outcome_of p ≡ (if b then Err (TooWide p.negative (is_huge p)) else Ok (value_of p))
@@ -56,7 +31,7 @@ not_wide-fits p h = grind (arith, nat_tests)
 wide : (p : Parts) → 0 < p.over → (FitsParts p → ⊥) → is_too_wide p ≡ true
 wide p h n = grind (arith, nat_tests)
 
-is_huge-from : (p : Parts) (huge : Bool) → IsTrue huge ↔ (p.under * huge_size ≤ p.over) → is_huge p ≡ huge
+is_huge-from : (p : Parts) (huge : Bool) → IsTrue huge ↔ (p.under * HUGE ≤ p.over) → is_huge p ≡ huge
 is_huge-from p true e = grind (arith, nat_tests, e.0 refl)
 is_huge-from p false e = grind (arith, nat_tests, e.1)
 
@@ -66,10 +41,10 @@ outcome_of-zero p e h = by_test p false (not_wide-zero p e) ∙ ap Ok (lowest_of
 pub outcome_of-fits : (p : Parts) → FitsParts p → outcome_of p ≡ Ok (value_of p)
 outcome_of-fits p h = by_test p false (not_wide-fits p h)
 
-pub outcome_of-wide : (p : Parts) (huge : Bool) → 0 < p.over → (FitsParts p → ⊥) → IsTrue huge ↔ (p.under * huge_size ≤ p.over) → outcome_of p ≡ Err (TooWide p.negative huge)
+pub outcome_of-wide : (p : Parts) (huge : Bool) → 0 < p.over → (FitsParts p → ⊥) → IsTrue huge ↔ (p.under * HUGE ≤ p.over) → outcome_of p ≡ Err (TooWide p.negative huge)
 outcome_of-wide p huge h n e = by_test p true (wide p h n) ∙ ap (λ b. Err (TooWide p.negative b)) (is_huge-from p huge e)
 
-pub is_huge-tens : (n len : ℕ) (tens : ℤ) → IsSized n len → (pos 20 <ℤ (pos len +ℤ tens)) ↔ (tens_under tens * huge_size ≤ tens_over n tens)
+pub is_huge-tens : (n len : ℕ) (tens : ℤ) → IsSized n len → (pos 20 <ℤ (pos len +ℤ tens)) ↔ (tens_under tens * HUGE ≤ tens_over n tens)
 is_huge-tens n len (pos t) s =
     let longer = sized-times n len t s in (
       λ h. let r = sized_reaches (n * 10 ^ t) (len + t) 20 longer (omega (arith, ints, h)) in omega (arith, r),
@@ -93,10 +68,3 @@ tens_under-positive (negsuc t) = let h = ten_pos (suc t) in omega (arith, h)
 pub tens_over-zero : (tens : ℤ) → tens_over 0 tens ≡ 0
 tens_over-zero (pos t) = zero-mul (10 ^ t)
 tens_over-zero (negsuc t) = refl
-
--- what fits as it stands fits in lowest terms
-pub FitsReduced-from_parts : (n d : ℕ) → n < limit → d < limit → FitsReduced n d
-unfolding reduced_fits
-FitsReduced-from_parts n d h k =
-    let g : ℕ = gcd n d in
-    both_true (below (n / g) n (div-le_self n g) h) (below (d / g) d (div-le_self d g) k)

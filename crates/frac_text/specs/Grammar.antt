@@ -2,6 +2,7 @@
 use Rattle.std.specs.Prelude.{◌≡◌, ℕ, ◌+◌, ◌<◌, ◌≤◌, Bool, true, false, ◌⊎◌, List, [], ◌∷◌, ◌++◌, length, ℤ, pos}
 use Rattle.std.specs.Str.{all_ascii_digits}
 use Rattle.frac128.specs.Numbers.{signed}
+pub use Rattle.frac128.specs.Text.{slash}
 use Rattle.frac_text.specs.Digits.{number}
 use Rattle.frac_text.specs.Number.{Number, decimal, ratio}
 
@@ -13,7 +14,7 @@ max_len = 255
 abbrev pub max_exponent_len : ℕ
 max_exponent_len = 4
 
--- the bytes of `+`, `-`, `.`, `/`, `e` and `E`
+-- the bytes of `+`, `-`, `.`, `e` and `E`; that of `/` is `slash`
 abbrev pub plus : ℕ
 plus = 43
 
@@ -22,9 +23,6 @@ minus = 45
 
 abbrev pub point : ℕ
 point = 46
-
-abbrev pub slash : ℕ
-slash = 47
 
 abbrev pub lower_e : ℕ
 lower_e = 101

@@ -1,4 +1,5 @@
 pub mod Digits
+pub mod FaultText
 pub mod Grammar
 pub mod Number
 pub mod Reading

@@ -2,6 +2,7 @@
 use Rattle.std.specs.Prelude.{ℕ, ◌*◌, ◌^◌, ◌<◌, suc, Bool, ◌&&◌, not, List, ◌++◌, length, ℤ, pos, negsuc, ◌-ℤ◌, neg_ℤ, ◌≤ℤ◌, Result, Ok, Err, nat_lt, nat_le, if◌then◌else◌}
 use Rattle.frac128.specs.Fraction.{Fraction, lowest}
 use Rattle.frac128.specs.Numbers.{is_below_limit, limit, signed}
+use Rattle.frac128.specs.declared.limits.TheConstants.{HUGE}
 use Rattle.frac_text.specs.Digits.{number, without_last_zeros}
 use Rattle.frac_text.specs.declared.fault.NumFault.{NumFault}
 use Rattle.frac_text.specs.declared.fault.NumFault.TheVariants.{TooWide}
@@ -47,16 +48,9 @@ FitsParts p = (p.over < limit) × (p.under < limit)
 abbrev pub is_too_wide : Parts → Bool
 is_too_wide p = nat_lt 0 p.over && not (is_below_limit p.over && is_below_limit p.under)
 
--- from this size on a number is huge
-abbrev pub huge_tens : ℕ
-huge_tens = 20
-
-abbrev pub huge_size : ℕ
-huge_size = 10 ^ huge_tens
-
 -- the size is at least 10 ^ 20
 abbrev pub is_huge : Parts → Bool
-is_huge p = nat_le (p.under * huge_size) p.over
+is_huge p = nat_le (p.under * HUGE) p.over
 
 -- the value, in lowest terms
 abbrev pub value_of : Parts → Fraction

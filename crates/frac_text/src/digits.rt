@@ -5,8 +5,7 @@ ghost use Rattle.frac128.specs.Numbers.{limit};
 ghost use Rattle.frac_text.specs.Digits.{behind_digits, front_digits, number, number_after, without_first_zeros, without_last_zeros};
 ghost use Rattle.frac_text.specs.Grammar.{AreDigits};
 
-/// What no part of a fraction reaches in size.
-pub(crate) const LIMIT: u128 = 1 << 127;
+use frac128::LIMIT;
 
 /// The digits at the front, and the bytes behind them.
 pub(crate) fn split_digits(bytes: &[u8]) -> (&[u8], &[u8])

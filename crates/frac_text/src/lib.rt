@@ -18,6 +18,3 @@ mod writing;
 pub use fault::NumFault;
 pub use reading::read;
 pub use writing::{write, write_onto, write_size_onto};
-
-#[cfg(test)]
-mod tests;

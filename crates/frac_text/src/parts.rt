@@ -1,21 +1,18 @@
 //! What the parts of a number text are worth: its value, or that it is too wide.
-ghost use Rattle.std.specs.Prelude.{◌≡◌, ◌+◌, ◌*◌, ◌<◌, ◌≤◌, ◌↔◌, ◌++◌, IsTrue, length, pos, unsigned_abs, ◌+ℤ◌, ◌-ℤ◌, ◌<ℤ◌};
+ghost use Rattle.std.specs.Prelude.{◌≡◌, ◌+◌, ◌*◌, ◌<◌, ◌≤◌, ◌↔◌, ◌++◌, IsTrue, length, pos, ◌+ℤ◌, ◌-ℤ◌, ◌<ℤ◌};
 ghost use Rattle.std.specs.Option.{SomeIff};
-ghost use Rattle.frac128.specs.Fraction.{lowest};
-ghost use Rattle.frac128.specs.Numbers.{limit, signed};
+ghost use Rattle.frac128.specs.Numbers.{limit};
+ghost use Rattle.frac128.specs.declared.limits.TheConstants.{HUGE, HUGE_TENS};
 ghost use Rattle.frac_text.specs.Digits.{number};
 ghost use Rattle.frac_text.specs.Grammar.{AreDigits, max_len};
-ghost use Rattle.frac_text.specs.Number.{IsInExponents, IsInTens, decimal, huge_size, huge_tens, outcome_of, parts_of, ratio, tens_over, tens_under, with_tens};
+ghost use Rattle.frac_text.specs.Number.{IsInExponents, IsInTens, decimal, outcome_of, parts_of, ratio, tens_over, tens_under, with_tens};
 
 use crate::digits::{
     is_zero, joined_number, number_after, significant_len, with_zeros, without_first_zeros,
     without_last_zeros,
 };
 use crate::fault::NumFault;
-use frac128::Frac;
-
-/// A number is huge from 10 to this power on.
-const HUGE_TENS: usize = 20;
+use frac128::{Frac, HUGE_TENS};
 
 /// The value of the digits before and behind a point, with an exponent.
 pub(crate) fn decimal_value(
@@ -57,7 +54,7 @@ fn scaled_value(negative: bool, whole: &[u8], behind: &[u8], tens: i64) -> Resul
         return Ok(Frac::zero());
     }
     match decimal_parts(whole, behind, tens) {
-        Some((over, under)) => Ok(fraction(negative, over, under)),
+        Some((over, under)) => Ok(Frac::reduced(negative, over, under)),
         None => Err(NumFault::TooWide {
             negative,
             huge: is_huge_decimal(len, tens),
@@ -81,7 +78,7 @@ fn decimal_parts(whole: &[u8], behind: &[u8], tens: i64) -> Option<(u128, u128)>
 fn is_huge_decimal(len: usize, tens: i64) -> bool
     requires not_long { len ≤ max_len }
     requires tens_fit { IsInTens tens }
-    ensures { IsTrue result ↔ (pos huge_tens <ℤ (pos len +ℤ tens)) }
+    ensures { IsTrue result ↔ (pos HUGE_TENS <ℤ (pos len +ℤ tens)) }
 {
     len as i64 + tens > HUGE_TENS as i64
 }
@@ -113,7 +110,7 @@ pub(crate) fn ratio_value(negative: bool, over: &[u8], under: &[u8]) -> Result<F
         return Ok(Frac::zero());
     }
     match ratio_parts(over, under) {
-        Some((over, under)) => Ok(fraction(negative, over, under)),
+        Some((over, under)) => Ok(Frac::reduced(negative, over, under)),
         None => Err(NumFault::TooWide {
             negative,
             huge: is_huge_ratio(over, under),
@@ -137,7 +134,7 @@ fn is_huge_ratio(over: &[u8], under: &[u8]) -> bool
     requires over_above_zero { 0 < number over.now }
     requires under_above_zero { 0 < number under.now }
     requires not_long { length over.now + length under.now ≤ max_len }
-    ensures { IsTrue result ↔ (number under.now * huge_size ≤ number over.now) }
+    ensures { IsTrue result ↔ (number under.now * HUGE ≤ number over.now) }
 {
     let over = without_first_zeros(over);
     let under = without_first_zeros(under);
@@ -153,24 +150,4 @@ fn is_at_least(left: &[u8], right: &[u8]) -> bool
     ensures { IsTrue result ↔ (number right.now ≤ number left.now) }
 {
     left.cmp(right).is_ge()
-}
-
-/// `over / under` with this sign.
-fn fraction(negative: bool, over: u128, under: u128) -> Frac
-    requires over_fits { over < limit }
-    requires under_fits { under < limit }
-    requires under_above_zero { 0 < under }
-    ensures { result ≡ lowest (signed negative over) under }
-{
-    Frac::make(signed(negative, over), under as i128).unwrap()
-}
-
-/// The number with this sign and size.
-fn signed(negative: bool, size: u128) -> i128
-    requires { size < limit }
-    ensures value { result ≡ signed negative size }
-    ensures same_size { unsigned_abs result ≡ size }
-{
-    let number = size as i128;
-    if negative { -number } else { number }
 }

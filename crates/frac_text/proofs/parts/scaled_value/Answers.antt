@@ -2,7 +2,8 @@ use Rattle.std.proofs.Common.{arith, ◌*◌, pos, ◌+ℤ◌, ◌<ℤ◌, subst
 use Rattle.std.proofs.lemmas.Int.{to_z-of_z}
 use Rattle.std.proofs.lemmas.Grind.{common_steps}
 use Rattle.frac_text.specs.Digits.{number, without_first_zeros}
-use Rattle.frac_text.specs.Number.{FitsParts, outcome_of, with_tens, huge_size}
+use Rattle.frac128.specs.declared.limits.TheConstants.{HUGE}
+use Rattle.frac_text.specs.Number.{FitsParts, outcome_of, with_tens}
 use Rattle.frac_text.proofs.Runs.{AreDigits-append, length-without_first_zeros-le}
 use Rattle.frac_text.proofs.Sizes.{IsSized, sized, sized_above_zero, number-zeros}
 use Rattle.frac_text.proofs.Outcomes.{outcome_of-zero, outcome_of-wide, is_huge-tens, tens_over-le, tens_over-zero, tens_under-positive}
@@ -25,8 +26,8 @@ returns-then-len-eq0 c =
 pub decimal_parts-requires-clause-above_zero : goal.decimal_parts-requires-clause-above_zero
 decimal_parts-requires-clause-above_zero c = above_zero c
 
-pub fraction-requires-clause-under_above_zero : goal.fraction-requires-clause-under_above_zero
-fraction-requires-clause-under_above_zero c = let positive = tens_under-positive c.args.tens in grind (arith, common_steps, positive)
+pub reduced-requires-clause-den_above_zero : goal.reduced-requires-clause-den_above_zero
+reduced-requires-clause-den_above_zero c = let positive = tens_under-positive c.args.tens in grind (arith, common_steps, positive)
 
 pub is_huge_decimal-requires-clause-not_long : goal.is_huge_decimal-requires-clause-not_long
 is_huge_decimal-requires-clause-not_long c =
@@ -44,6 +45,6 @@ returns-in-None c =
     let told = is_huge-tens n len c.args.tens sized_as in
     let fits = c.ranges.tens in
     let own : IsTrue c.is_huge_decimal.result ↔ (pos 20 <ℤ (pos len +ℤ c.args.tens)) = simp to_z-of_z at c.is_huge_decimal.ensures in
-    let huge : IsTrue c.is_huge_decimal.result ↔ (p.under * huge_size ≤ p.over) = (λ t. told.0 (own.0 t), λ h. own.1 (told.1 h)) in
+    let huge : IsTrue c.is_huge_decimal.result ↔ (p.under * HUGE ≤ p.over) = (λ t. told.0 (own.0 t), λ h. own.1 (told.1 h)) in
     let some : 0 < p.over = omega (arith, tens_over-le n c.args.tens, above_zero at) in
     sym (outcome_of-wide p c.is_huge_decimal.result some none huge)

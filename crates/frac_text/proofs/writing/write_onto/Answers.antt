@@ -1,8 +1,5 @@
 use Rattle.frac_text.proofs.RoundTrip.{reading-canonical_text}
 use Rattle.frac_text.proofs.writing.write_onto.Goals as goal
 
-pub returns-in_err-extend_from_slice-clause-read_again : goal.returns-in_err-extend_from_slice-clause-read_again
-returns-in_err-extend_from_slice-clause-read_again c = reading-canonical_text c.args.value.now c.num.ensures.kept
-
 pub returns-clause-read_again : goal.returns-clause-read_again
 returns-clause-read_again c = reading-canonical_text c.args.value.now c.num.ensures.kept
