@@ -24,6 +24,3 @@ pub use names::{is_name, is_tag};
 pub use params::Params;
 pub use sizes::size;
 pub use solution::{Cert, CertNode, NodeEvent, Outcome, Point, SolEvent, Weight, Weights, WideAt};
-
-#[cfg(test)]
-mod tests;

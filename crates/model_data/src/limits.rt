@@ -1,4 +1,5 @@
 //! How large a model and its parameters may be.
+use frac128::HUGE;
 
 /// The most variables of a model.
 pub const MAX_VARS: usize = 1_000;
@@ -13,7 +14,7 @@ pub const MAX_TERMS: usize = 250_000;
 pub const MAX_SIZE: u64 = 1_000_000;
 
 /// A finite bound is below this in size.
-pub const BOUND_SIZE: u128 = 100_000_000_000_000_000_000;
+pub const BOUND_SIZE: u128 = HUGE;
 
 /// The longest name of a variable or of a row.
 pub const MAX_NAME_LEN: usize = 255;
