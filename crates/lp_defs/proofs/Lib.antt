@@ -1,11 +1,11 @@
-mod Agreement
+pub mod Agreement
 mod AtTheLimits
 pub mod CanonicalExamples
 mod Digits
 mod KeptNumbers
 pub mod Labels
 mod Lists
-mod Named
+pub mod Named
 pub mod Names
 mod Parts
 mod ReadObjective
@@ -19,7 +19,7 @@ mod SpelledSections
 mod Takes
 mod Tidy
 mod TidyText
-mod Told
+pub mod Told
 pub mod Words
 mod Worked
 mod Writable
