@@ -4,6 +4,7 @@ pub mod CanonicalExamples
 mod Digits
 mod KeptNumbers
 pub mod Labels
+pub mod Laws
 mod Lists
 pub mod Named
 pub mod Names
@@ -13,18 +14,21 @@ mod ReadRows
 mod ReadSections
 mod Rest
 mod Sight
+pub mod Sound
+pub mod SoundNumbers
+pub mod SoundRows
+pub mod SoundText
+pub mod SoundTokens
 mod Spelled
 mod SpelledRows
 mod SpelledSections
 mod Takes
-mod Tidy
-mod TidyText
 pub mod Told
 pub mod Words
 mod Worked
 mod Writable
 mod WrittenLines
-mod WrittenModel
+pub mod WrittenModel
 mod WrittenNumbers
 mod WrittenObjective
 mod WrittenPieces

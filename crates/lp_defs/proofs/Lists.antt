@@ -1,16 +1,9 @@
 -- Lists of which each item, or each pair of items, has something.
-use Rattle.std.proofs.Common.{◌≡◌, ◌∙◌, subst, ℕ, suc, ◌+◌, ◌<◌, List, [], ◌∷◌, ◌++◌, map, length, arith, get_or}
-use Rattle.std.specs.List.{AllWithin}
+use Rattle.std.proofs.Common.{subst, suc, List, [], ◌∷◌, ◌++◌, map, arith, get_or}
 use Rattle.std.specs.Prelude.{All, AllPairs}
-use Rattle.std.proofs.lemmas.List.{get_or_default, length-map}
-use Rattle.std.proofs.lemmas.List.Elements.{All-cons, All-head, All-nil, All-tail, AllWithin-more}
+use Rattle.std.proofs.lemmas.List.{length-map}
+use Rattle.std.proofs.lemmas.List.Elements.{All-cons, All-head, All-nil, All-tail}
 use Rattle.std.proofs.Math.ListN.{get_or-map}
-
--- one more item, as a loop comes to it
-pub AllWithin-item : {X : Type 0} (P : X → Type 0) (xs : List X) (i : ℕ) (x : X) → i < length xs → x ≡ get_or xs i x → P x →
-    AllWithin P xs 0 i → AllWithin P xs 0 (i + 1)
-AllWithin-item P xs i x within is own before =
-    AllWithin-more P xs 0 i before (λ d. subst P (is ∙ get_or_default xs i x d within) own)
 
 AllPairs-head : {X : Type 0} (R : X → X → Type 0) (x : X) (xs : List X) → AllPairs R (x ∷ xs) → All (R x) xs
 AllPairs-head R x xs all = λ k d within. all 0 (suc k) d (omega arith) (omega (arith, within))

@@ -29,11 +29,11 @@ named_in None = false
 named_in (Some kind) = is_named kind
 
 -- a kind that is tried, with the outcome of its test
-record Try : Type 0 where
-  holds : Bool
-  kind : Kind
+pub record Try : Type 0 where
+  pub holds : Bool
+  pub kind : Kind
 
-first_of : List Try → Option Kind
+unfoldable pub first_of : List Try → Option Kind
 first_of [] = None
 first_of (one ∷ more) = cond one.holds (Some one.kind) (first_of more)
 
@@ -78,7 +78,7 @@ unfolding named_in
 passed None rest h e = (refl, e, refl)
 passed (Some kind) rest h e = let no : false ≡ true = sym h ∙ e in absurd cc
 
-symbols : List ℕ → List Try
+unfoldable pub symbols : List ℕ → List Try
 symbols run =
     (record { holds = is_any (codes "+" ∷ []) run; kind = Ok (Sign false) })
     ∷ (record { holds = is_any (codes "-" ∷ []) run; kind = Ok (Sign true) })
@@ -106,7 +106,7 @@ quantity_unnamed run =
     unnamed_step (is_infinite run) (Ok (Infinite (is_negative run))) (cond (begins_number run) (Some (number_kind (reading run))) None) refl
     (unnamed_step (begins_number run) (number_kind (reading run)) None (number_unnamed (reading run)) refl)
 
-section_tries : List Entry → List ℕ → List Try
+unfoldable pub section_tries : List Entry → List ℕ → List Try
 section_tries [] run = []
 section_tries (entry ∷ more) run = (record { holds = is_any_word entry.words run; kind = entry.kind }) ∷ section_tries more run
 

@@ -6,7 +6,7 @@ use Rattle.model_data.specs.declared.limits.TheConstants.{MAX_ROWS, MAX_TERMS, M
 use Rattle.model_data.specs.declared.model.Model.{Model}
 use Rattle.model_data.specs.declared.model.Row.{Row}
 use Rattle.model_data.specs.declared.model.Var.{Var}
-use Rattle.lp_defs.specs.Kept.{HasKeptNumbers, IsKeptRow, IsKeptVar}
+use Rattle.model_data.specs.Kept.{HasKeptNumbers, IsKeptRow, IsKeptVar}
 
 pub record IsWritableVar (v : Var) : Type 0 where
   pub lawful : IsLawfulVar v

@@ -18,7 +18,7 @@ use Rattle.lp_defs.specs.declared.token.SectionWord.TheVariants.{Binary as binar
 use Rattle.lp_defs.specs.Canonical.{canonical_text, is_same_kind, is_zero, untagged, untagged_var}
 use Rattle.lp_defs.specs.Draft.{with_kind}
 use Rattle.lp_defs.specs.Grammar.{ObjectiveWord, Sections, SpellsModel, SpellsSection, binary, bounds, general, maximize, minimize, more, none, subject_to, unlabelled}
-use Rattle.lp_defs.specs.Kept.{HasKeptNumbers}
+use Rattle.model_data.specs.Kept.{HasKeptNumbers}
 use Rattle.lp_defs.specs.Symbols.{Spot, Symbol, keyword, name, comparison}
 use Rattle.lp_defs.specs.Text.{Spells}
 use Rattle.lp_defs.specs.Tokens.{first_place}

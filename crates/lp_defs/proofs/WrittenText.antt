@@ -22,7 +22,7 @@ use Rattle.lp_defs.specs.declared.token.SectionWord.{SectionWord}
 use Rattle.lp_defs.specs.declared.token.SectionWord.TheVariants.{Binary as binary_word, Bounds, End, Free, General, Subject}
 use Rattle.lp_defs.specs.Canonical.{bounds_lines, bounds_of, canonical_text, constant_terms, direction_text, is_same, is_same_kind, is_zero, joined, kind_lines, lines, name_at, objective_line, row_line, row_terms, section, sense_text, signed_text, spaced, spaced_word, term_text}
 use Rattle.lp_defs.specs.Items.{forbidden_after}
-use Rattle.lp_defs.specs.Kept.{HasKeptNumbers}
+use Rattle.model_data.specs.Kept.{HasKeptNumbers}
 use Rattle.lp_defs.specs.Symbols.{Symbol, comparison, number, keyword, label, name, infinite}
 use Rattle.lp_defs.proofs.Sight.{at_blank, at_feed, IsToken, open_feed, open_word, Reads, done, blank, feed, mild, any}
 use Rattle.lp_defs.proofs.Takes.{flat}

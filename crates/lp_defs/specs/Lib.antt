@@ -2,7 +2,6 @@ pub mod Canonical
 pub mod Draft
 pub mod Grammar
 pub mod Items
-pub mod Kept
 pub mod Kinds
 pub mod Objective
 pub mod Quantity

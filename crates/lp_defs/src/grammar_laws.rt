@@ -1,7 +1,7 @@
 //! What holds of the grammar of a model's text, as contracts without code.
-ghost use Rattle.std.specs.Prelude.{◌≡◌, ◌↔◌, ◌⊎◌, ◌++◌, ◌≤◌, ℕ, List, Err, Ok, length, map};
-ghost use Rattle.model_data.specs.Lawful.{AreDistinct};
-ghost use Rattle.model_data.specs.declared.limits.TheConstants.{MAX_ROWS, MAX_VARS};
+ghost use Rattle.std.specs.Prelude.{◌≡◌, ◌↔◌, ◌⊎◌, ◌++◌, ℕ, List, Err, Ok};
+ghost use Rattle.model_data.specs.Kept.{HasKeptNumbers};
+ghost use Rattle.model_data.specs.Lawful.{IsLawful};
 ghost use Rattle.model_data.specs.declared.model.Model.{Model};
 ghost use Rattle.lp_defs.specs.declared.fault.ModelFault.{ModelFault};
 ghost use Rattle.lp_defs.specs.Grammar.{SpellsModel};
@@ -30,10 +30,8 @@ pub fn a_stop_is_final()
     ensures no_model { (xs ys : List Seen) (m : Model) (f : ModelFault) → stage_behind start xs ≡ Err f → SpellsModel (xs ++ ys) m → ⊥ }
 {}
 
-/// A model that is spelled has its variables and its rows by distinct names, and not too many of them.
-pub fn names_are_distinct()
-    ensures vars { (text : List ℕ) (m : Model) → Spells text m → AreDistinct (map (λ v. v.name) m.vars) }
-    ensures rows { (text : List ℕ) (m : Model) → Spells text m → AreDistinct (map (λ r. r.name) m.rows) }
-    ensures var_limit { (text : List ℕ) (m : Model) → Spells text m → length m.vars ≤ MAX_VARS }
-    ensures row_limit { (text : List ℕ) (m : Model) → Spells text m → length m.rows ≤ MAX_ROWS }
+/// A model that a text spells is lawful, and its numbers are in lowest terms and fit.
+pub fn spelled_models_are_lawful()
+    ensures lawful { (text : List ℕ) (m : Model) → Spells text m → IsLawful m }
+    ensures kept { (text : List ℕ) (m : Model) → Spells text m → HasKeptNumbers m }
 {}

@@ -4,23 +4,21 @@
 //! and two words on one line may have a fault together (`specs/Items.antt`). Which tokens spell which model is said
 //! twice: by the productions (`specs/Grammar.antt`), and by a reading token by token, which finds the first fault too
 //! (`specs/Reading.antt`). Both tell a model by the same small steps (`specs/Draft.antt`). `specs/Text.antt` says it of
-//! texts, and [`reading_is_the_grammar`] that the two agree. `specs/Canonical.antt` has the one text that is written for
-//! a model, and [`written_is_read`] says that it spells that model alone. What that asks of numbers (`specs/Kept.antt`)
-//! holds of each model in memory, by [`kept_numbers`]. The types that these definitions speak of stand here too.
+//! texts, [`reading_is_the_grammar`] that the two agree, and [`spelled_models_are_lawful`] that a text spells lawful models
+//! alone. `specs/Canonical.antt` has the one text that is written for a model, and [`written_is_read`] says that it spells
+//! that model alone. The types that these definitions speak of stand here too.
 #![tactic(auto)]
 
 mod canonical_laws;
 mod fault;
 mod grammar_laws;
-mod kept;
 mod token;
 mod token_laws;
 
 pub use canonical_laws::written_is_read;
 pub use fault::ModelFault;
 pub use grammar_laws::{
-    a_stop_is_final, names_are_distinct, one_model_or_one_place, reading_is_the_grammar,
+    a_stop_is_final, one_model_or_one_place, reading_is_the_grammar, spelled_models_are_lawful,
 };
-pub use kept::kept_numbers;
 pub use token::{LexFault, Place, SectionWord, Token, TokenKind};
 pub use token_laws::{labels_are_names, names_are_tokens, names_make_labels};

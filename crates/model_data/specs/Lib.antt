@@ -1,3 +1,4 @@
+pub mod Kept
 pub mod Lawful
 pub mod Names
 pub mod Params

@@ -1,13 +1,12 @@
 //! What holds of the numbers of each model in memory.
 ghost use Rattle.std.specs.Prelude.{All, IfSome};
 ghost use Rattle.frac128.specs.Lowest.{IsKept};
-ghost use Rattle.lp_defs.specs.Kept.{HasKeptNumbers, IsKeptRow, IsKeptVar};
+ghost use Rattle.model_data.specs.Kept.{HasKeptNumbers, IsKeptRow, IsKeptVar};
 
+use crate::model::{Model, Row, Term, Var};
 use frac128::Frac;
-use model_data::{Model, Row, Term, Var};
 
-/// Does nothing, and tells a proof that the numbers of the model are in lowest terms and fit, as
-/// [`written_is_read`](crate::written_is_read) asks. It goes over them once.
+/// Does nothing, and tells a proof that the numbers of the model are in lowest terms and fit. It goes over them once.
 pub fn kept_numbers(model: &Model)
     ensures { HasKeptNumbers model.now }
 {

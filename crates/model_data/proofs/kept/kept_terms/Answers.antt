@@ -1,7 +1,7 @@
 use Rattle.frac128.specs.Lowest.{IsKept}
 use Rattle.model_data.specs.declared.model.Term.{Term}
-use Rattle.lp_defs.proofs.Lists.{AllWithin-item}
-use Rattle.lp_defs.proofs.kept.kept_terms.Goals as goal
+use Rattle.model_data.proofs.Items.{AllWithin-item}
+use Rattle.model_data.proofs.kept.kept_terms.Goals as goal
 
 pub loop-term-preserved : goal.loop-term-preserved
 loop-term-preserved c =

@@ -1,6 +1,6 @@
 use Rattle.std.specs.List.{AllWithin}
 use Rattle.frac128.specs.Lowest.{IsKept}
-use Rattle.lp_defs.proofs.kept.kept_terms.Given as goal
+use Rattle.model_data.proofs.kept.kept_terms.Given as goal
 
 abbrev pub invariant-loop-term : goal.invariant-loop-term
 invariant-loop-term l = AllWithin (λ t. IsKept t.coef) l.terms 0 l.term-index
