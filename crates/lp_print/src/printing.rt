@@ -1,6 +1,9 @@
 //! The whole text of a model.
 ghost use Rattle.std.specs.Prelude.{◌≡◌, IfOk};
-ghost use Rattle.lp_defs.specs.Canonical.{canonical_text, direction_text};
+ghost use Rattle.model_data.specs.Lawful.{IsLawful};
+ghost use Rattle.model_data.specs.declared.model.Model.{Model};
+ghost use Rattle.lp_defs.specs.Canonical.{canonical_text, direction_text, untagged};
+ghost use Rattle.lp_defs.specs.Text.{Spells};
 
 use crate::bounds::write_bounds;
 use crate::kinds::write_kind;
@@ -8,11 +11,23 @@ use crate::objective::write_objective;
 use crate::rows::write_rows;
 use crate::words::write_line;
 use base_names::{NoMemory, Text};
-use model_data::{Direction, Model, VarKind};
+use model_data::{Direction, Model, VarKind, kept_numbers};
 use std::alloc::Global;
 
-/// The canonical text of the model. A term whose variable isn't there, as no lawful model has one, has an empty name.
+/// The canonical text of a lawful model. It is read as the model without its tags, and as no other.
+#[tactic(auto, using(lp_defs::proofs::Laws::told))]
 pub fn print(alloc: Global, m: &Model) -> Result<Text, NoMemory>
+    requires { IsLawful m.now }
+    ensures text { IfOk result (λ text. text ≡ canonical_text m.now) }
+    ensures spells { IfOk result (λ text. Spells text (untagged m.now)) }
+    ensures no_other { IfOk result (λ text. (n : Model) → Spells text n → n ≡ untagged m.now) }
+{
+    kept_numbers(m);
+    write(alloc, m)
+}
+
+/// The canonical text of any model. A term whose variable isn't there has an empty name.
+pub(crate) fn write(alloc: Global, m: &Model) -> Result<Text, NoMemory>
     ensures { IfOk result (λ text. text ≡ canonical_text m.now) }
 {
     let vars = m.vars.as_slice();

@@ -1,8 +1,8 @@
-use Rattle.std.proofs.Common.{sym}
-use Rattle.lp_print.proofs.Joining.{canonical_text-written}
+use Rattle.std.proofs.lemmas.Result.{IfOk-weaker}
+use Rattle.lp_defs.proofs.Laws.{told_alone}
 use Rattle.lp_print.proofs.printing.print.Goals as goal
 
-pub returns : goal.returns
-returns c =
-    rw (c.of.ensures, c.in_ok-write_line-3.ensures, c.in_ok-write_kind-2.ensures, c.in_ok-write_kind.ensures, c.in_ok-write_bounds.ensures, c.in_ok-write_rows.ensures, c.in_ok-write_line-2.ensures, c.in_ok-write_objective.ensures, c.in_ok-write_line.ensures, c.new-out.ensures.items, c.direction_text.ensures, c.as_slice-vars.ensures, c.as_slice.ensures)
-    (sym (canonical_text-written c.args.m.now))
+pub returns-clause-no_other : goal.returns-clause-no_other
+returns-clause-no_other c =
+    let m = c.args.m.now in
+    IfOk-weaker c.write.result _ _ (λ text is. told_alone m text is c.requires c.kept_numbers.ensures) c.write.ensures
