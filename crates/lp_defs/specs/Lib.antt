@@ -1,5 +1,6 @@
 pub mod Canonical
 pub mod Draft
+pub mod FaultText
 pub mod Grammar
 pub mod Items
 pub mod Kinds

@@ -15,6 +15,7 @@ mod grammar_laws;
 mod token;
 mod token_laws;
 
+pub use base_names::FaultWord;
 pub use canonical_laws::written_is_read;
 pub use fault::ModelFault;
 pub use grammar_laws::{

@@ -1,7 +1,13 @@
 //! Tokens of a model's text, and where they stand.
+
+ghost use Rattle.std.specs.Prelude.{Some};
+ghost use Rattle.lp_defs.specs.FaultText.{placed_text};
+
 use base_names::FaultWord;
 use frac128::Frac;
 use model_data::Sense;
+use std::error::Error;
+use std::fmt;
 
 /// The place of a byte, or of the end of a text.
 #[derive(Clone, Copy, Debug, PartialEq, Eq)]
@@ -76,3 +82,13 @@ pub struct LexFault {
     pub column: u32,
     pub fault: FaultWord,
 }
+
+impl fmt::Display for LexFault {
+    ghost output = { λ fault. Some (placed_text fault.line fault.column fault.fault) };
+
+    fn fmt<W: fmt::Write>(&self, f: &mut fmt::Formatter<W>) -> fmt::Result {
+        write!(f, "line {} column {} {}", self.line, self.column, self.fault)
+    }
+}
+
+impl Error for LexFault {}

@@ -5,10 +5,10 @@ use Rattle.lp_defs.proofs.WrittenModel.{text_spelled}
 use Rattle.lp_defs.proofs.canonical_laws.written_is_read.Goals as goal
 
 pub returns-clause-spells : goal.returns-clause-spells
-returns-clause-spells c = text_spelled
+returns-clause-spells c = λ m. text_spelled m.model m.lawful m.kept
 
 pub returns-clause-no_other : goal.returns-clause-no_other
-returns-clause-no_other c = λ m n lawful kept. told_alone m (canonical_text m) refl lawful kept n
+returns-clause-no_other c = λ m n. told_alone m.model (canonical_text m.model) refl m.lawful m.kept n
 
 pub returns-clause-again : goal.returns-clause-again
 returns-clause-again c = written_again
