@@ -6,7 +6,8 @@ use Rattle.std.specs.Str.{bytes_eq}
 use Rattle.std.proofs.lemmas.Slice.Eq.{bytes_eq-Decides}
 use Rattle.std.proofs.Math.Seq.{take-append_seam}
 use Rattle.base_names.specs.declared.refusal.FaultWord.TheVariants.{NameLength, Word}
-use Rattle.model_data.specs.Names.{IsName, begins_name, is_name, is_name_byte, is_one_of, is_reserved, reserved_words}
+use Rattle.model_data.specs.Names.{IsName, begins_name, is_name, is_name_byte, is_one_of, is_reserved}
+use Rattle.model_data.specs.Words.{reserved_words}
 use Rattle.model_data.specs.declared.limits.TheConstants.{MAX_NAME_LEN}
 use Rattle.lp_defs.specs.declared.token.TokenKind.TheVariants.{Label, Name}
 use Rattle.lp_defs.specs.Kinds.{Kind, as_label, begins_with, colon, ends_in_colon, front_of, infinite_words, is_any, is_any_word, is_word_of_its_own, kind_of, label_of, name_of, section_of}

@@ -1,12 +1,13 @@
 -- The words with a meaning of their own: those that the kinds look for are those that no name may be.
-use Rattle.std.proofs.Common.{◌≡◌, refl, ◌∙◌, ap, Bool, true, false, cond, ◌||◌, List, [], ◌∷◌, ◌++◌, ℕ, codes, Option, Some, None, is_some, Ok, Err}
+use Rattle.std.proofs.Common.{◌≡◌, refl, ◌∙◌, ap, Bool, true, false, cond, ◌||◌, List, [], ◌∷◌, ◌++◌, ℕ, Option, Some, None, is_some, Ok, Err}
 use Rattle.std.specs.Str.{str_eq_ignore_ascii_case}
 use Rattle.std.proofs.lemmas.List.Folds.{list_any-append}
 use Rattle.base_names.specs.declared.refusal.FaultWord.TheVariants.{Unsupported}
 use Rattle.model_data.specs.Names.{is_reserved}
+use Rattle.model_data.specs.Words.{binary_words, bounds_words, constraints_words, end_words, free_words, general_words, infinite_words, maximize_words, minimize_words, subject_words, such_words, unsupported_words}
 use Rattle.lp_defs.specs.declared.token.SectionWord.TheVariants.{Binary, Bounds, Constraints, End, Free, General, Maximize, Minimize, Subject, Such}
 use Rattle.lp_defs.specs.declared.token.TokenKind.TheVariants.{Section}
-use Rattle.lp_defs.specs.Kinds.{Kind, infinite_words, is_any_word, is_word_of_its_own, section_of, unsupported_words}
+use Rattle.lp_defs.specs.Kinds.{Kind, is_any_word, is_word_of_its_own, section_of}
 
 pub record Entry : Type 0 where
   pub words : List (List ℕ)
@@ -22,16 +23,16 @@ all_words (entry ∷ more) = entry.words ++ all_words more
 
 abbrev pub sections : List Entry
 sections =
-    (record { words = codes "minimize" ∷ codes "minimise" ∷ codes "minimum" ∷ codes "min" ∷ []; kind = Ok (Section Minimize) })
-    ∷ (record { words = codes "maximize" ∷ codes "maximise" ∷ codes "maximum" ∷ codes "max" ∷ []; kind = Ok (Section Maximize) })
-    ∷ (record { words = codes "subject" ∷ []; kind = Ok (Section Subject) })
-    ∷ (record { words = codes "such" ∷ []; kind = Ok (Section Such) })
-    ∷ (record { words = codes "st" ∷ codes "st." ∷ codes "s.t." ∷ []; kind = Ok (Section Constraints) })
-    ∷ (record { words = codes "bounds" ∷ codes "bound" ∷ []; kind = Ok (Section Bounds) })
-    ∷ (record { words = codes "general" ∷ codes "generals" ∷ codes "gen" ∷ []; kind = Ok (Section General) })
-    ∷ (record { words = codes "binary" ∷ codes "binaries" ∷ codes "bin" ∷ []; kind = Ok (Section Binary) })
-    ∷ (record { words = codes "free" ∷ []; kind = Ok (Section Free) })
-    ∷ (record { words = codes "end" ∷ []; kind = Ok (Section End) })
+    (record { words = minimize_words; kind = Ok (Section Minimize) })
+    ∷ (record { words = maximize_words; kind = Ok (Section Maximize) })
+    ∷ (record { words = subject_words; kind = Ok (Section Subject) })
+    ∷ (record { words = such_words; kind = Ok (Section Such) })
+    ∷ (record { words = constraints_words; kind = Ok (Section Constraints) })
+    ∷ (record { words = bounds_words; kind = Ok (Section Bounds) })
+    ∷ (record { words = general_words; kind = Ok (Section General) })
+    ∷ (record { words = binary_words; kind = Ok (Section Binary) })
+    ∷ (record { words = free_words; kind = Ok (Section Free) })
+    ∷ (record { words = end_words; kind = Ok (Section End) })
     ∷ (record { words = unsupported_words; kind = Err Unsupported })
     ∷ []
 

@@ -10,6 +10,8 @@ use Rattle.frac_text.specs.declared.fault.NumFault.TheVariants.{NotNumber, TooWi
 use Rattle.base_names.specs.declared.refusal.FaultWord.{FaultWord}
 use Rattle.base_names.specs.declared.refusal.FaultWord.TheVariants.{NameLength, Number as bad_number, Unsupported, Word}
 use Rattle.model_data.specs.Names.{is_one_of}
+use Rattle.model_data.specs.Words.{binary_words, bounds_words, constraints_words, end_words, free_words, general_words, maximize_words, minimize_words, subject_words, such_words}
+pub use Rattle.model_data.specs.Words.{infinite_words, unsupported_words}
 use Rattle.model_data.specs.declared.limits.TheConstants.{MAX_NAME_LEN}
 use Rattle.model_data.specs.declared.model.Sense.TheVariants.{Equal, Greater, Less}
 use Rattle.lp_defs.specs.declared.token.SectionWord.TheVariants.{Binary, Bounds, Constraints, End, Free, General, Maximize, Minimize, Subject, Such}
@@ -49,9 +51,6 @@ number_kind (Ok value) = Ok (Number value)
 number_kind (Err NotNumber) = Err bad_number
 number_kind (Err (too_wide negative huge)) = Ok (TooWide negative huge)
 
-abbrev pub infinite_words : List (List ℕ)
-infinite_words = codes "inf" ∷ codes "infinity" ∷ []
-
 abbrev pub is_infinite : List ℕ → Bool
 is_infinite run = is_any_word infinite_words (behind_sign run)
 
@@ -66,24 +65,19 @@ quantity_of run =
     else (if begins_number run then Some (number_kind (reading run))
     else None)
 
-abbrev pub unsupported_words : List (List ℕ)
-unsupported_words =
-    codes "semi-continuous" ∷ codes "semis" ∷ codes "semi" ∷ codes "sos" ∷ codes "pwlobj" ∷ codes "multi-objectives"
-    ∷ codes "scenario" ∷ []
-
 -- section words
 unfoldable pub section_of : List ℕ → Option Kind
 section_of run =
-    if is_any_word (codes "minimize" ∷ codes "minimise" ∷ codes "minimum" ∷ codes "min" ∷ []) run then Some (Ok (Section Minimize))
-    else (if is_any_word (codes "maximize" ∷ codes "maximise" ∷ codes "maximum" ∷ codes "max" ∷ []) run then Some (Ok (Section Maximize))
-    else (if is_any_word (codes "subject" ∷ []) run then Some (Ok (Section Subject))
-    else (if is_any_word (codes "such" ∷ []) run then Some (Ok (Section Such))
-    else (if is_any_word (codes "st" ∷ codes "st." ∷ codes "s.t." ∷ []) run then Some (Ok (Section Constraints))
-    else (if is_any_word (codes "bounds" ∷ codes "bound" ∷ []) run then Some (Ok (Section Bounds))
-    else (if is_any_word (codes "general" ∷ codes "generals" ∷ codes "gen" ∷ []) run then Some (Ok (Section General))
-    else (if is_any_word (codes "binary" ∷ codes "binaries" ∷ codes "bin" ∷ []) run then Some (Ok (Section Binary))
-    else (if is_any_word (codes "free" ∷ []) run then Some (Ok (Section Free))
-    else (if is_any_word (codes "end" ∷ []) run then Some (Ok (Section End))
+    if is_any_word minimize_words run then Some (Ok (Section Minimize))
+    else (if is_any_word maximize_words run then Some (Ok (Section Maximize))
+    else (if is_any_word subject_words run then Some (Ok (Section Subject))
+    else (if is_any_word such_words run then Some (Ok (Section Such))
+    else (if is_any_word constraints_words run then Some (Ok (Section Constraints))
+    else (if is_any_word bounds_words run then Some (Ok (Section Bounds))
+    else (if is_any_word general_words run then Some (Ok (Section General))
+    else (if is_any_word binary_words run then Some (Ok (Section Binary))
+    else (if is_any_word free_words run then Some (Ok (Section Free))
+    else (if is_any_word end_words run then Some (Ok (Section End))
     else (if is_any_word unsupported_words run then Some (Err Unsupported)
     else None))))))))))
 

@@ -87,7 +87,11 @@ impl fmt::Display for LexFault {
     ghost output = { λ fault. Some (placed_text fault.line fault.column fault.fault) };
 
     fn fmt<W: fmt::Write>(&self, f: &mut fmt::Formatter<W>) -> fmt::Result {
-        write!(f, "line {} column {} {}", self.line, self.column, self.fault)
+        write!(
+            f,
+            "line {} column {} {}",
+            self.line, self.column, self.fault
+        )
     }
 }
 

@@ -3,3 +3,4 @@ pub mod Lawful
 pub mod Names
 pub mod Params
 pub mod Size
+pub mod Words

@@ -2,6 +2,7 @@
 use Rattle.std.specs.Prelude.{ℕ, Bool, false, not, ◌&&◌, ◌||◌, List, [], ◌∷◌, length, ◌==◌, nat_le, nat_lt, codes, bytes_eq, map, IsTrue}
 use Rattle.std.specs.Char.{is_ascii_digit, to_ascii_lowercase}
 use Rattle.std.specs.List.{list_all, list_any}
+use Rattle.model_data.specs.Words.{reserved_words}
 use Rattle.model_data.specs.declared.limits.TheConstants.{MAX_NAME_LEN, MAX_TAG_LEN}
 
 -- a byte that can be seen: no white space, no control byte, none past ASCII
@@ -20,18 +21,7 @@ is_name_byte byte = is_visible byte && not (is_one_of (codes "\\:") byte)
 abbrev pub begins_name : ℕ → Bool
 begins_name byte = not (is_ascii_digit byte || is_one_of (codes ".+-[*^<>=()],") byte)
 
--- words with a meaning of their own in a model's text
-abbrev pub reserved_words : List (List ℕ)
-reserved_words =
-    codes "minimize" ∷ codes "minimise" ∷ codes "minimum" ∷ codes "min"
-    ∷ codes "maximize" ∷ codes "maximise" ∷ codes "maximum" ∷ codes "max"
-    ∷ codes "subject" ∷ codes "such" ∷ codes "st" ∷ codes "st." ∷ codes "s.t."
-    ∷ codes "bounds" ∷ codes "bound" ∷ codes "general" ∷ codes "generals" ∷ codes "gen"
-    ∷ codes "binary" ∷ codes "binaries" ∷ codes "bin" ∷ codes "free" ∷ codes "end"
-    ∷ codes "semi-continuous" ∷ codes "semis" ∷ codes "semi" ∷ codes "sos" ∷ codes "pwlobj"
-    ∷ codes "multi-objectives" ∷ codes "scenario" ∷ codes "inf" ∷ codes "infinity" ∷ []
-
--- one of them, in letters of any case
+-- a word with a meaning of its own, in letters of any case
 abbrev pub is_reserved : List ℕ → Bool
 is_reserved text = list_any (λ word. bytes_eq word (map to_ascii_lowercase text)) reserved_words
 
