@@ -9,16 +9,16 @@ use Rattle.base_io.specs.declared.piece.Piece.{Piece}
 use Rattle.base_io.specs.declared.piece.Piece.TheVariants.{Line, End, TooLong, ReadFault}
 use Rattle.base_io.specs.Held.{Held}
 use Rattle.base_io.specs.Lines.{ends_in_return, without_return, IsEndAt}
-use Rattle.base_io.specs.Reader.{Passes, IsEndedLine, IsPartOfLine, GivesLine}
-use Rattle.base_io.proofs.Passing.{Passes-none, Passes-more}
+use Rattle.base_io.specs.Reader.{Passes, Moves, IsEndedLine, IsPartOfLine, GivesLine}
+use Rattle.base_io.proofs.Passing.{Passes-none, Needed-none, Moves-after}
 
 -- a call after one that gave nothing
-pub GivesLine-after : (result : Result Piece NoMemory) (old mid new : Held) (left left' : Option (List ℕ)) → Passes old mid left left' [] → GivesLine result mid new left' left' → GivesLine result old new left left'
-GivesLine-after (Ok (Line line)) old mid new left left' a (given, b, is, short) = (given, Passes-more old mid new left left' left' [] given a b, is, short)
-GivesLine-after (Ok End) old mid new left left' a (b, ended, none) = (Passes-more old mid new left left' left' [] [] a b, ended, none)
-GivesLine-after (Ok TooLong) old mid new left left' a (b, long) = (Passes-more old mid new left left' left' [] [] a b, long)
-GivesLine-after (Ok ReadFault) old mid new left left' a (b, going, part) = (Passes-more old mid new left left' left' [] [] a b, going, part)
-GivesLine-after (Err e) old mid new left left' a b = Passes-more old mid new left left' left' [] [] a b
+pub GivesLine-after : (result : Result Piece NoMemory) (old mid new : Held) (left left' : Option (List ℕ)) → Moves IsPartOfLine old mid left left' [] → GivesLine result mid new left' left' → GivesLine result old new left left'
+GivesLine-after (Ok (Line line)) old mid new left left' a (given, b, is, short) = (given, Moves-after old mid new left left' left' given a b, is, short)
+GivesLine-after (Ok End) old mid new left left' a (b, ended, none) = (Moves-after old mid new left left' left' [] a b, ended, none)
+GivesLine-after (Ok TooLong) old mid new left left' a (b, long) = (Moves-after old mid new left left' left' [] a b, long)
+GivesLine-after (Ok ReadFault) old mid new left left' a (b, going, part) = (Moves-after old mid new left left' left' [] a b, going, part)
+GivesLine-after (Err e) old mid new left left' a b = Moves-after old mid new left left' left' [] a b
 
 -- the first bytes are passed over
 pub Passes-front : (old : Held) (left : Option (List ℕ)) (n : ℕ) → old.waiting ≡ None → n ≤ length old.bytes → old.given + n < INPUT_LIMIT → Passes old (record old { bytes = drop n old.bytes; given = old.given + n }) left left (take n old.bytes)
@@ -32,6 +32,16 @@ Passes-front old left n none high below = record {
   once = λ ended. (ended, refl);
   at_end = λ at ended. at ended;
 }
+
+-- and nothing was read for them
+pub Moves-front : (IsPart : Held → Type 0) (old : Held) (left : Option (List ℕ)) (n : ℕ) → old.waiting ≡ None → n ≤ length old.bytes → old.given + n < INPUT_LIMIT → Moves IsPart old (record old { bytes = drop n old.bytes; given = old.given + n }) left left (take n old.bytes)
+Moves-front IsPart old left n none high below = record {
+  passes = Passes-front old left n none high below;
+  needed = Needed-none IsPart old (record old { bytes = drop n old.bytes; given = old.given + n }) (take n old.bytes) (sym (take-append-drop n old.bytes));
+}
+
+pub Moves-none : (IsPart : Held → Type 0) (held : Held) (left : Option (List ℕ)) → held.given < INPUT_LIMIT → held.waiting ≡ None → Moves IsPart held held left left []
+Moves-none IsPart held left below none = record { passes = Passes-none held left below none; needed = Needed-none IsPart held held [] refl }
 
 -- a line without its carriage return is a front of it
 return_cases : (line : List ℕ) (test : Bool) → take (length (cond test (take (length line - 1) line) line)) line ≡ cond test (take (length line - 1) line) line
@@ -71,11 +81,11 @@ gives_ended_line (Ok piece) old new left place len none now there is short below
     length-take-le len old.bytes (omega (arith, is, (length-without_return (take place old.bytes)).0, length-take-le place old.bytes (omega (arith, there.below)), there.below)) in
     rw (piece_is, new_is) (
       take (place + 1) old.bytes,
-      Passes-front old left (place + 1) none (omega (arith, there.below)) below,
+      Moves-front IsPartOfLine old left (place + 1) none (omega (arith, there.below)) below,
       inl (ended_line_is place len old.bytes there is),
       rw size short,
     )
-gives_ended_line (Err e) old new left place len none now there is short below ok same = rw same (Passes-none old left now none)
+gives_ended_line (Err e) old new left place len none now there is short below ok same = rw same (Moves-none IsPartOfLine old left now none)
 
 -- what is held is given, as the last line
 pub gives_last_line : (result : Result Piece NoMemory) (old new : Held) (left : Option (List ℕ)) (len : ℕ) → old.waiting ≡ None → old.ended ≡ true → IsPartOfLine old → len ≡ length old.bytes → 0 < len → len ≤ LINE_LIMIT
@@ -86,7 +96,7 @@ gives_last_line (Ok piece) old new left len none ended part is some short (piece
     let whole : take len old.bytes ≡ old.bytes = take_all len old.bytes (omega (arith, is)) in
     rw (piece_is, new_is) (
       take len old.bytes,
-      Passes-front old left len none (omega (arith, is)) (omega (arith, is, part.below)),
+      Moves-front IsPartOfLine old left len none (omega (arith, is)) (omega (arith, is, part.below)),
       inr (record {
         whole = refl;
         one = rw whole part.one;
@@ -96,4 +106,4 @@ gives_last_line (Ok piece) old new left len none ended part is some short (piece
       }),
       rw whole (omega (arith, is, short)),
     )
-gives_last_line (Err e) old new left len none ended part is some short ok same = rw same (Passes-none old left (omega (arith, part.below)) none)
+gives_last_line (Err e) old new left len none ended part is some short ok same = rw same (Moves-none IsPartOfLine old left (omega (arith, part.below)) none)

@@ -2,7 +2,7 @@
 use Rattle.std.specs.Prelude.{ℕ, ◌+◌, ◌<◌, ◌≤◌, ◌≡◌, ◌⊎◌, true, false, List, [], ◌∷◌, ◌++◌, length, Option, None, Result, Ok, Err, min}
 use Rattle.base_names.specs.declared.memory.NoMemory.{NoMemory}
 use Rattle.base_names.specs.Outside.{Reads, IsAtEnd}
-use Rattle.base_io.specs.declared.limits.TheConstants.{LINE_LIMIT, INPUT_LIMIT}
+use Rattle.base_io.specs.declared.limits.TheConstants.{LINE_LIMIT, INPUT_LIMIT, READ_LIMIT}
 use Rattle.base_io.specs.declared.piece.Piece.{Piece}
 use Rattle.base_io.specs.declared.piece.Piece.TheVariants.{Line, End, TooLong, ReadFault}
 use Rattle.base_io.specs.declared.line_end.LineEnd.{LineEnd}
@@ -22,6 +22,21 @@ pub record Passes (old new : Held) (left left' : Option (List ℕ)) (given : Lis
   -- once the source has said that it is at its end it isn't read again
   pub once : old.ended ≡ true → (new.ended ≡ true) × (moved ≡ [])
   pub at_end : (old.ended ≡ true → IsAtEnd left) → new.ended ≡ true → IsAtEnd left'
+
+-- No read was made too early or too much. Before the last one no more than a part was held of what was asked for, and
+-- it gave at most READ_LIMIT bytes. Where nothing was read, it gave none.
+pub record Needed (IsPart : Held → Type 0) (old new : Held) (given : List ℕ) : Type 0 where
+  -- what was held before the last read, and what that gave
+  pub earlier : List ℕ
+  pub last : List ℕ
+  pub whole : earlier ++ last ≡ given ++ new.bytes
+  pub short : length last ≤ READ_LIMIT
+  pub part : ((earlier ≡ old.bytes) × (last ≡ [])) ⊎ IsPart (record old { bytes = earlier })
+
+-- what any call did that was asked for something of which this may be a part
+pub record Moves (IsPart : Held → Type 0) (old new : Held) (left left' : Option (List ℕ)) (given : List ℕ) : Type 0 where
+  pub passes : Passes old new left left' given
+  pub needed : Needed IsPart old new given
 
 -- a line that a line feed ended
 pub record IsEndedLine (line given : List ℕ) : Type 0 where
@@ -64,20 +79,20 @@ pub record IsPartOfLine (held : Held) : Type 0 where
 -- what a call for a line did, by its answer
 abbrev pub GivesLine : Result Piece NoMemory → (old new : Held) (left left' : Option (List ℕ)) → Type 0
 GivesLine (Ok (Line line)) old new left left' =
-    (given : List ℕ) × Passes old new left left' given
+    (given : List ℕ) × Moves IsPartOfLine old new left left' given
     × (IsEndedLine line given ⊎ IsLastLine line given new) × (length line ≤ LINE_LIMIT)
-GivesLine (Ok End) old new left left' = Passes old new left left' [] × (new.ended ≡ true) × (new.bytes ≡ [])
-GivesLine (Ok TooLong) old new left left' = Passes old new left left' [] × (IsLongLine new ⊎ IsLongInput new)
-GivesLine (Ok ReadFault) old new left left' = Passes old new left left' [] × (new.ended ≡ false) × IsPartOfLine new
-GivesLine (Err _) old new left left' = Passes old new left left' []
+GivesLine (Ok End) old new left left' = Moves IsPartOfLine old new left left' [] × (new.ended ≡ true) × (new.bytes ≡ [])
+GivesLine (Ok TooLong) old new left left' = Moves IsPartOfLine old new left left' [] × (IsLongLine new ⊎ IsLongInput new)
+GivesLine (Ok ReadFault) old new left left' = Moves IsPartOfLine old new left left' [] × (new.ended ≡ false) × IsPartOfLine new
+GivesLine (Err _) old new left left' = Moves IsPartOfLine old new left left' []
 
 -- what the search for a line's end did, by its answer
 abbrev pub FindsLineEnd : Result LineEnd NoMemory → (old new : Held) (left left' : Option (List ℕ)) → Type 0
-FindsLineEnd (Ok (At place)) old new left left' = Passes old new left left' [] × IsEndAt place new.bytes
-FindsLineEnd (Ok Input) old new left left' = Passes old new left left' [] × (new.ended ≡ true) × IsPartOfLine new
-FindsLineEnd (Ok Overlong) old new left left' = Passes old new left left' [] × (IsLongLine new ⊎ IsLongInput new)
-FindsLineEnd (Ok Fault) old new left left' = Passes old new left left' [] × (new.ended ≡ false) × IsPartOfLine new
-FindsLineEnd (Err _) old new left left' = Passes old new left left' []
+FindsLineEnd (Ok (At place)) old new left left' = Moves IsPartOfLine old new left left' [] × IsEndAt place new.bytes
+FindsLineEnd (Ok Input) old new left left' = Moves IsPartOfLine old new left left' [] × (new.ended ≡ true) × IsPartOfLine new
+FindsLineEnd (Ok Overlong) old new left left' = Moves IsPartOfLine old new left left' [] × (IsLongLine new ⊎ IsLongInput new)
+FindsLineEnd (Ok Fault) old new left left' = Moves IsPartOfLine old new left left' [] × (new.ended ≡ false) × IsPartOfLine new
+FindsLineEnd (Err _) old new left left' = Moves IsPartOfLine old new left left' []
 
 -- no more than a part of a block of k bytes is held
 pub record IsPartOfBlock (k : ℕ) (held : Held) : Type 0 where
@@ -91,8 +106,8 @@ pub record IsLongBlock (k : ℕ) (held : Held) : Type 0 where
 
 -- what a call for a block of k bytes did, by its answer
 abbrev pub GivesBlock : ℕ → Result Piece NoMemory → (old new : Held) (left left' : Option (List ℕ)) → Type 0
-GivesBlock k (Ok (Line block)) old new left left' = Passes old new left left' block × (length block ≡ k)
-GivesBlock k (Ok End) old new left left' = Passes old new left left' [] × (new.ended ≡ true) × IsPartOfBlock k new
-GivesBlock k (Ok TooLong) old new left left' = Passes old new left left' [] × IsLongBlock k new
-GivesBlock k (Ok ReadFault) old new left left' = Passes old new left left' [] × (new.ended ≡ false) × IsPartOfBlock k new
-GivesBlock k (Err _) old new left left' = Passes old new left left' []
+GivesBlock k (Ok (Line block)) old new left left' = Moves (IsPartOfBlock k) old new left left' block × (length block ≡ k)
+GivesBlock k (Ok End) old new left left' = Moves (IsPartOfBlock k) old new left left' [] × (new.ended ≡ true) × IsPartOfBlock k new
+GivesBlock k (Ok TooLong) old new left left' = Moves (IsPartOfBlock k) old new left left' [] × IsLongBlock k new
+GivesBlock k (Ok ReadFault) old new left left' = Moves (IsPartOfBlock k) old new left left' [] × (new.ended ≡ false) × IsPartOfBlock k new
+GivesBlock k (Err _) old new left left' = Moves (IsPartOfBlock k) old new left left' []

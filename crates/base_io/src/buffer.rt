@@ -1,9 +1,11 @@
 //! Bytes that were taken from a source and are not used yet.
 
 ghost use Rattle.std.specs.Prelude.{◌≡◌, ◌<◌, ◌≤◌, ◌+◌, ◌^◌, [], ◌++◌, OnOk, OnErr, length, drop};
-ghost use Rattle.base_names.specs.Outside.{Reads, Rose};
+ghost use Rattle.base_names.specs.Outside.{IsAtEnd, Reads, Rose};
+ghost use Rattle.base_io.specs.Buffered.{IsShort};
+ghost use Rattle.base_io.specs.Source.{bytes_got, FitsBuffer};
 
-use crate::limits::LINE_LIMIT;
+use crate::limits::{LINE_LIMIT, READ_LIMIT};
 use crate::source::{Got, Source};
 use base_names::NoMemory;
 use std::alloc::Global;
@@ -107,10 +109,24 @@ impl Buffer {
         ensures failed { result ≡ Ok Got.Failed → Rose (S.faults source.old) (S.faults source.new) }
     {
         self.make_room(whole)?;
-        let got = source.read(&mut self.bytes[self.end..]);
+        let got = read_once(source, &mut self.bytes[self.end..]);
         if let Got::Bytes(n) = got {
             self.end += n;
         }
         Ok(got)
     }
+}
+
+/// Reads once, at most READ_LIMIT bytes to the front of the room.
+fn read_once<S: Source>(source: &mut S, room: &mut [u8]) -> Got
+    ensures same { S.name source.new ≡ S.name source.old }
+    ensures count { FitsBuffer result room.new }
+    ensures short { IsShort result }
+    ensures bytes { Reads (S.left source.old) (S.left source.new) (bytes_got result room.new) }
+    ensures end { result ≡ Got.Bytes 0 → 0 < length room.new → IsAtEnd (S.left source.new) }
+    ensures later { S.faults source.old ≤ S.faults source.new }
+    ensures failed { result ≡ Got.Failed → Rose (S.faults source.old) (S.faults source.new) }
+{
+    let len = room.len().min(READ_LIMIT);
+    source.read(&mut room[..len])
 }

@@ -29,7 +29,7 @@ mod std_sink;
 mod std_source;
 mod writing;
 
-pub use limits::{INPUT_LIMIT, LINE_LIMIT};
+pub use limits::{INPUT_LIMIT, LINE_LIMIT, READ_LIMIT};
 pub use memory_sink::MemSink;
 pub use memory_source::MemSource;
 pub use piece::Piece;

@@ -5,3 +5,6 @@ pub const LINE_LIMIT: usize = 65_536;
 
 /// An input that reaches so many bytes is too long.
 pub const INPUT_LIMIT: u64 = 1 << 40;
+
+/// No more than so many bytes are asked of a source at once.
+pub const READ_LIMIT: usize = 65_536;
