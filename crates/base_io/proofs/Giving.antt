@@ -1,6 +1,6 @@
 -- What a reader gives of what it holds.
-use Rattle.std.proofs.Common.{◌≡◌, ℕ, ◌+◌, ◌-◌, ◌<◌, ◌≤◌, List, [], ◌∷◌, ◌++◌, Bool, true, false, cond, Option, None, Result, Ok, Err, inl, inr, length, take, drop, refl, ap, sym, ◌∙◌, arith, append_assoc, length-append}
-use Rattle.std.specs.Prelude.{IfOk, OnErr}
+use Rattle.std.proofs.Common.{◌≡◌, ℕ, ◌+◌, ◌-◌, ◌<◌, ◌≤◌, suc, List, [], ◌∷◌, ◌++◌, Bool, true, false, ◌==◌, cond, Option, None, Result, Ok, Err, inl, inr, length, take, drop, refl, ap, sym, ◌∙◌, arith, append_assoc, length-append}
+use Rattle.std.specs.Prelude.{IfOk, OnErr, slice_index}
 use Rattle.std.proofs.lemmas.List.{append-nil, take_at, take_all, take-take, length-take-le, take-append-drop, drop_all}
 use Rattle.base_names.specs.declared.memory.NoMemory.{NoMemory}
 use Rattle.base_names.proofs.Outside.{Reads-none}
@@ -8,7 +8,7 @@ use Rattle.base_io.specs.declared.limits.TheConstants.{LINE_LIMIT, INPUT_LIMIT}
 use Rattle.base_io.specs.declared.piece.Piece.{Piece}
 use Rattle.base_io.specs.declared.piece.Piece.TheVariants.{Line, End, TooLong, ReadFault}
 use Rattle.base_io.specs.Held.{Held}
-use Rattle.base_io.specs.Lines.{ends_in_return, without_return, IsEndAt}
+use Rattle.base_io.specs.Lines.{without_return, IsEndAt}
 use Rattle.base_io.specs.Reader.{Passes, Moves, IsEndedLine, IsPartOfLine, GivesLine}
 use Rattle.base_io.proofs.Passing.{Passes-none, Needed-none, Moves-after}
 
@@ -44,19 +44,34 @@ pub Moves-none : (IsPart : Held → Type 0) (held : Held) (left : Option (List �
 Moves-none IsPart held left below none = record { passes = Passes-none held left below none; needed = Needed-none IsPart held held [] refl }
 
 -- a line without its carriage return is a front of it
-return_cases : (line : List ℕ) (test : Bool) → take (length (cond test (take (length line - 1) line) line)) line ≡ cond test (take (length line - 1) line) line
-return_cases line true = ap (λ (n : ℕ). take n line) (length-take-le (length line - 1) line (omega arith))
-return_cases line false = take_all (length line) line (omega arith)
-
 pub take-without_return : (line : List ℕ) → take (length (without_return line)) line ≡ without_return line
-take-without_return line = return_cases line (ends_in_return line)
-
-length_cases : (line : List ℕ) (test : Bool) → (length (cond test (take (length line - 1) line) line) ≤ length line) × (length line ≤ length (cond test (take (length line - 1) line) line) + 1)
-length_cases line true = let is = length-take-le (length line - 1) line (omega arith) in (omega (arith, is), omega (arith, is))
-length_cases line false = (omega arith, omega arith)
+take-without_return [] = refl
+take-without_return (byte ∷ []) = of_one (byte == 13) where
+  of_one : (test : Bool) → take (length (cond test [] (byte ∷ []))) (byte ∷ []) ≡ cond test [] (byte ∷ [])
+  of_one true = refl
+  of_one false = refl
+take-without_return (byte ∷ next ∷ bytes) = ap (λ (l : List ℕ). byte ∷ l) (take-without_return (next ∷ bytes))
 
 pub length-without_return : (line : List ℕ) → (length (without_return line) ≤ length line) × (length line ≤ length (without_return line) + 1)
-length-without_return line = length_cases line (ends_in_return line)
+length-without_return [] = (omega arith, omega arith)
+length-without_return (byte ∷ []) = of_one (byte == 13) where
+  of_one : (test : Bool) → (length (cond test [] (byte ∷ [])) ≤ 1) × (1 ≤ length (cond test [] (byte ∷ [])) + 1)
+  of_one true = (omega arith, omega arith)
+  of_one false = (omega arith, omega arith)
+length-without_return (byte ∷ next ∷ bytes) = let rest = length-without_return (next ∷ bytes) in (omega (arith, rest.0), omega (arith, rest.1))
+
+-- it is the line without its last byte, where that is a carriage return
+pub trimmed : (line : List ℕ) → cond (slice_index line (length line - 1) == 13) (take (length line - 1) line) line ≡ without_return line
+trimmed [] = refl
+trimmed (byte ∷ []) = refl
+trimmed (byte ∷ next ∷ bytes) =
+    let n = length (next ∷ bytes) - 1 in
+    let place : length (byte ∷ next ∷ bytes) - 1 ≡ suc n = omega arith in
+    ap (λ (k : ℕ). cond (slice_index (byte ∷ next ∷ bytes) k == 13) (take k (byte ∷ next ∷ bytes)) (byte ∷ next ∷ bytes)) place
+    ∙ (later n (slice_index (next ∷ bytes) n == 13) ∙ ap (λ (l : List ℕ). byte ∷ l) (trimmed (next ∷ bytes))) where
+      later : (n : ℕ) (test : Bool) → cond test (byte ∷ take n (next ∷ bytes)) (byte ∷ next ∷ bytes) ≡ byte ∷ cond test (take n (next ∷ bytes)) (next ∷ bytes)
+      later n true = refl
+      later n false = refl
 
 ended_line_is : (place len : ℕ) (bytes : List ℕ) → IsEndAt place bytes → len ≡ length (without_return (take place bytes)) → IsEndedLine (take len bytes) (take (place + 1) bytes)
 ended_line_is place len bytes there is =

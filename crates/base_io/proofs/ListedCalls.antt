@@ -2,7 +2,8 @@
 use Rattle.std.proofs.Common.{◌≡◌, ℕ, ◌+◌, List, ◌++◌, Bool, ◌==◌, length, take, drop, ap, sym, ◌∙◌}
 use Rattle.std.specs.List.{list_any}
 use Rattle.std.proofs.lemmas.List.{take_at, drop-drop, take-append-drop}
-use Rattle.base_io.specs.Memory.{is_listed, one_more}
+use Rattle.base_names.specs.Outside.{one_more}
+use Rattle.base_io.specs.Memory.{is_listed}
 
 -- the number of the call was looked for in the list
 pub listed_is : (found answer : Bool) (call calls : ℕ) (failing list : List ℕ) → found ≡ list_any (λ other. other == call) list → list ≡ failing → call ≡ one_more calls → found ≡ answer → is_listed (one_more calls) failing ≡ answer

@@ -1,69 +1,52 @@
 -- What comes of a line that is too long, and of an input that reaches its limit.
-use Rattle.std.proofs.Common.{◌≡◌, ℕ, ◌+◌, ◌<◌, ◌≤◌, List, [], ◌∷◌, ◌++◌, Bool, true, false, ◌==◌, ◌||◌, nat_le, cond, Option, length, refl, ap, ap₂, sym, ◌∙◌, arith, append_assoc, ◌⊎◌, inl, inr}
-use Rattle.std.specs.Prelude.{min}
+use Rattle.std.proofs.Common.{◌≡◌, ℕ, ◌+◌, ◌<◌, ◌≤◌, List, [], ◌∷◌, ◌++◌, Bool, true, false, ◌==◌, nat_le, cond, Option, length, refl, ap, ap₂, sym, ◌∙◌, arith, append_assoc, ◌⊎◌, inl, inr}
 use Rattle.std.proofs.lemmas.Bool.{leb-true, leb-false, le-leb, lt-ltb}
 use Rattle.std.proofs.lemmas.List.{append-nil}
 use Rattle.base_io.specs.declared.limits.TheConstants.{LINE_LIMIT, INPUT_LIMIT}
 use Rattle.base_io.specs.Held.{Held}
 use Rattle.base_io.specs.Lines.{has_line_feed, without_return, is_too_long}
-use Rattle.base_io.specs.Reader.{IsLongLine, IsLongInput}
-use Rattle.base_io.specs.Frames.{Frame, TooLong, Place, InLine, Past, line_frames, line_place, frames_after_line_byte, place_after_line_byte, frames_after, place_after, place_from, frames_from, frames_at_end, frames_to_end}
-use Rattle.base_io.proofs.Frames.{frames_to_end-append, frames_from-past, place_from-past, or_parts, part_from}
+use Rattle.base_io.specs.Reader.{IsLongLine, IsLongInput, ReachesLimit}
+use Rattle.base_io.specs.Frames.{Frame, TooLong, Place, InLine, Past, still, overrun, behind, last_frame, block_len, ended_line, after_line_byte, after_byte, made_from, frames_at_end, frames_to_end}
+use Rattle.base_io.proofs.Frames.{made_from-step, made_from-past, frames_to_end-after, frames_to_end-made, or_parts, part_step, part_made}
 
 module _ (wants : List ℕ → Option ℕ) where
   -- these bytes of a line are too long, or the input is
-  pub record Over (count : ℕ) (place : Place) (bytes : List ℕ) : Type 0 where
-    pub place_is : place_from wants count place bytes ≡ Past
-    pub frames_are : frames_from wants count place bytes ≡ TooLong ∷ []
+  abbrev pub Over : (count : ℕ) (place : Place) (bytes : List ℕ) → Type 0
+  Over count place bytes = made_from wants count place bytes ≡ overrun
 
   -- nothing else comes of what follows
   pub over_to_end : (count : ℕ) (place : Place) (bytes more : List ℕ) → Over count place bytes → frames_to_end wants count place (bytes ++ more) ≡ TooLong ∷ []
   over_to_end count place bytes more over =
-      frames_to_end-append wants count place bytes more
-      ∙ (ap₂ (λ (fs : List Frame) (p : Place). fs ++ frames_to_end wants (count + length bytes) p more) over.frames_are over.place_is
-      ∙ ap₂ (λ (fs : List Frame) (p : Place). TooLong ∷ (fs ++ frames_at_end wants p)) (frames_from-past wants (count + length bytes) more) (place_from-past wants (count + length bytes) more))
+      frames_to_end-after wants count place bytes more overrun over
+      ∙ ap (λ (fs : List Frame). TooLong ∷ fs) (frames_to_end-made wants (count + length bytes) Past more (still Past) (made_from-past wants (count + length bytes) more))
 
   -- it is so by the first of the bytes
-  pub over_here : (count : ℕ) (place : Place) (byte : ℕ) (bytes : List ℕ) → place_after wants count place byte ≡ Past → frames_after wants count place byte ≡ TooLong ∷ [] → Over count place (byte ∷ bytes)
-  over_here count place byte bytes place_is frames_are = record {
-    place_is = ap (λ (p : Place). place_from wants (count + 1) p bytes) place_is ∙ place_from-past wants (count + 1) bytes;
-    frames_are = ap₂ (λ (fs : List Frame) (p : Place). fs ++ frames_from wants (count + 1) p bytes) frames_are place_is ∙ ap (λ (fs : List Frame). TooLong ∷ fs) (frames_from-past wants (count + 1) bytes);
-  }
+  pub over_here : (count : ℕ) (place : Place) (byte : ℕ) (bytes : List ℕ) → after_byte wants count place byte ≡ overrun → Over count place (byte ∷ bytes)
+  over_here count place byte bytes is =
+      made_from-step wants count place byte bytes overrun is ∙ ap (behind (TooLong ∷ [])) (made_from-past wants (count + 1) bytes)
 
-  over_input : (count byte : ℕ) (line bytes : List ℕ) → INPUT_LIMIT ≤ count + 1 → Over count (InLine line) (byte ∷ bytes)
-  over_input count byte line bytes high =
-      let here : nat_le INPUT_LIMIT (count + 1) ≡ true = le-leb INPUT_LIMIT (count + 1) high in
-      over_here count (InLine line) byte bytes
-      (ap (λ (t : Bool). cond t Past (place_after_line_byte wants line byte)) here)
-      (ap (λ (t : Bool). cond t (TooLong ∷ []) (frames_after_line_byte wants line byte)) here)
+  -- or by those behind it, by which nothing comes of it
+  pub over_later : (count : ℕ) (place next : Place) (byte : ℕ) (bytes : List ℕ) → after_byte wants count place byte ≡ still next → Over (count + 1) next bytes → Over count place (byte ∷ bytes)
+  over_later count place next byte bytes is later = made_from-step wants count place byte bytes (still next) is ∙ later
+
+  over_input : (count byte : ℕ) (line bytes : List ℕ) → nat_le INPUT_LIMIT (count + 1) ≡ true → Over count (InLine line) (byte ∷ bytes)
+  over_input count byte line bytes reached =
+      over_here count (InLine line) byte bytes (ap (λ (t : Bool). cond t overrun (after_line_byte wants line byte)) reached)
 
   -- One more byte of a line, which isn't a line feed: the line is too long by it, or the input is, or
   -- what follows tells.
   over_step : (reached long : Bool) (count byte : ℕ) (line bytes : List ℕ) → nat_le INPUT_LIMIT (count + 1) ≡ reached → (byte == 10) ≡ false → is_too_long (line ++ byte ∷ []) ≡ long
       → (count + 1 < INPUT_LIMIT → is_too_long (line ++ byte ∷ []) ≡ false → Over (count + 1) (InLine (line ++ byte ∷ [])) bytes)
       → Over count (InLine line) (byte ∷ bytes)
-  over_step true long count byte line bytes reached_is not long_is later =
-      over_here count (InLine line) byte bytes
-      (ap (λ (t : Bool). cond t Past (place_after_line_byte wants line byte)) reached_is)
-      (ap (λ (t : Bool). cond t (TooLong ∷ []) (frames_after_line_byte wants line byte)) reached_is)
+  over_step true long count byte line bytes reached_is not long_is later = over_input count byte line bytes reached_is
   over_step false true count byte line bytes reached_is not long_is later =
       over_here count (InLine line) byte bytes
-      (ap (λ (t : Bool). cond t Past (place_after_line_byte wants line byte)) reached_is
-      ∙ (ap (λ (t : Bool). cond t (line_place wants (without_return line)) (cond (is_too_long (line ++ byte ∷ [])) Past (InLine (line ++ byte ∷ [])))) not
-      ∙ ap (λ (t : Bool). cond t Past (InLine (line ++ byte ∷ []))) long_is))
-      (ap (λ (t : Bool). cond t (TooLong ∷ []) (frames_after_line_byte wants line byte)) reached_is
-      ∙ (ap (λ (t : Bool). cond t (line_frames wants (without_return line)) (cond (is_too_long (line ++ byte ∷ [])) (TooLong ∷ []) [])) not
-      ∙ ap (λ (t : Bool). cond t (TooLong ∷ []) []) long_is))
+      (ap (λ (t : Bool). cond t overrun (after_line_byte wants line byte)) reached_is
+      ∙ (ap (λ (t : Bool). cond t (ended_line wants (without_return line)) (cond (is_too_long (line ++ byte ∷ [])) overrun (still (InLine (line ++ byte ∷ []))))) not
+      ∙ ap (λ (t : Bool). cond t overrun (still (InLine (line ++ byte ∷ [])))) long_is))
   over_step false false count byte line bytes reached_is not long_is later =
       let low : count + 1 < INPUT_LIMIT = leb-false INPUT_LIMIT (count + 1) reached_is in
-      let part = part_from wants count line (byte ∷ []) (ap (λ (t : Bool). t || false) not) long_is low in
-      let rest = later low long_is in
-      let place : place_after wants count (InLine line) byte ≡ InLine (line ++ byte ∷ []) = part.0 in
-      let frames : frames_after wants count (InLine line) byte ≡ [] = sym (append-nil (frames_after wants count (InLine line) byte)) ∙ part.1 in
-      record {
-        place_is = ap (λ (p : Place). place_from wants (count + 1) p bytes) place ∙ rest.place_is;
-        frames_are = ap₂ (λ (fs : List Frame) (p : Place). fs ++ frames_from wants (count + 1) p bytes) frames place ∙ rest.frames_are;
-      }
+      over_later count (InLine line) (InLine (line ++ byte ∷ [])) byte bytes (part_step wants count byte line low not long_is) (later low long_is)
 
   -- a line that is too long whatever comes next
   over_line : (count : ℕ) (line bytes : List ℕ) → has_line_feed bytes ≡ false → is_too_long line ≡ false → is_too_long (line ++ bytes) ≡ true → Over count (InLine line) bytes
@@ -83,7 +66,7 @@ module _ (wants : List ℕ → Option ℕ) where
 
   -- an input that reaches its limit with a line or the byte behind it
   over_behind : (count : ℕ) (line bytes : List ℕ) (byte : ℕ) (rest : List ℕ) → has_line_feed bytes ≡ false → count < INPUT_LIMIT → INPUT_LIMIT ≤ count + length bytes + 1 → Over count (InLine line) (bytes ++ byte ∷ rest)
-  over_behind count line [] byte rest one low high = over_input count byte line rest (omega (arith, high))
+  over_behind count line [] byte rest one low high = over_input count byte line rest (le-leb INPUT_LIMIT (count + 1) (omega (arith, high)))
   over_behind count line (first ∷ bytes) byte rest one low high =
       let parts = or_parts (first == 10) (has_line_feed bytes) one in
       over_step (nat_le INPUT_LIMIT (count + 1)) (is_too_long (line ++ first ∷ [])) count first line (bytes ++ byte ∷ rest) refl parts.0 refl
@@ -94,20 +77,20 @@ module _ (wants : List ℕ → Option ℕ) where
   over_last count false line one low is long = over_last_at_end (nat_le INPUT_LIMIT (count + length line)) refl where
     at_end : (bytes : List ℕ) → LINE_LIMIT < length bytes → frames_at_end wants (InLine bytes) ≡ TooLong ∷ []
     at_end [] much = absurd (omega arith)
-    at_end (byte ∷ bytes) much = ap (λ (t : Bool). cond t (TooLong ∷ []) (line_frames wants (byte ∷ bytes))) (lt-ltb LINE_LIMIT (length (byte ∷ bytes)) much)
+    at_end (byte ∷ bytes) much = ap (λ (t : Bool). cond t TooLong (last_frame (byte ∷ bytes) (block_len wants (byte ∷ bytes))) ∷ []) (lt-ltb LINE_LIMIT (length (byte ∷ bytes)) much)
 
     over_last_at_end : (t : Bool) → nat_le INPUT_LIMIT (count + length line) ≡ t → frames_to_end wants count (InLine []) line ≡ TooLong ∷ []
     over_last_at_end true reached =
         ap (frames_to_end wants count (InLine [])) (sym (append-nil line)) ∙ over_to_end count (InLine []) line [] (over_within count [] line one low (leb-true INPUT_LIMIT (count + length line) reached))
     over_last_at_end false reached =
-        let part = part_from wants count [] line one is (leb-false INPUT_LIMIT (count + length line) reached) in
-        ap₂ (λ (fs : List Frame) (p : Place). fs ++ frames_at_end wants p) part.1 part.0 ∙ at_end line long
+        frames_to_end-made wants count (InLine []) line (still (InLine line)) (part_made wants count [] line one is (leb-false INPUT_LIMIT (count + length line) reached)) ∙ at_end line long
 
-  behind_or_within : (held : Held) (line rest more : List ℕ) → has_line_feed line ≡ false → held.given < INPUT_LIMIT → INPUT_LIMIT ≤ held.given + length line + min 1 (length rest) → frames_to_end wants held.given (InLine []) (line ++ (rest ++ more)) ≡ TooLong ∷ []
-  behind_or_within held line [] more one low high = over_to_end held.given (InLine []) line more (over_within held.given [] line one low (omega (arith, high)))
-  behind_or_within held line (byte ∷ rest) more one low high =
+  behind_or_within : (held : Held) (line rest more : List ℕ) → has_line_feed line ≡ false → held.given < INPUT_LIMIT → ReachesLimit held.given line rest → frames_to_end wants held.given (InLine []) (line ++ (rest ++ more)) ≡ TooLong ∷ []
+  behind_or_within held line rest more one low (inl high) = over_to_end held.given (InLine []) line (rest ++ more) (over_within held.given [] line one low high)
+  behind_or_within held line [] more one low (inr (some, high)) = absurd (omega (arith, some))
+  behind_or_within held line (byte ∷ rest) more one low (inr (some, high)) =
       ap (frames_to_end wants held.given (InLine [])) (sym (append_assoc line (byte ∷ rest) more))
-      ∙ over_to_end held.given (InLine []) (line ++ byte ∷ rest) more (over_behind held.given [] line byte rest one low (omega (arith, high)))
+      ∙ over_to_end held.given (InLine []) (line ++ byte ∷ rest) more (over_behind held.given [] line byte rest one low high)
 
   -- What a reader that answers `TooLong` for a line holds: whatever the source gives after it, and
   -- nothing where it has ended.

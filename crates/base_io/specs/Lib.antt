@@ -6,3 +6,4 @@ pub mod Memory
 pub mod Reader
 pub mod Sink
 pub mod Source
+pub mod Std

@@ -1,5 +1,5 @@
 -- What a line of an input is, and how much of one is read.
-use Rattle.std.specs.Prelude.{ℕ, ◌+◌, ◌-◌, ◌<◌, ◌≡◌, Bool, false, ◌==◌, nat_lt, List, ◌∷◌, ◌++◌, length, take, drop, slice_index, if◌then◌else◌}
+use Rattle.std.specs.Prelude.{ℕ, ◌+◌, ◌<◌, ◌≡◌, Bool, false, ◌==◌, nat_lt, List, [], ◌∷◌, ◌++◌, length, take, drop, if◌then◌else◌}
 use Rattle.std.specs.List.{list_any}
 use Rattle.base_io.specs.declared.limits.TheConstants.{LINE_LIMIT}
 
@@ -7,13 +7,11 @@ use Rattle.base_io.specs.declared.limits.TheConstants.{LINE_LIMIT}
 abbrev pub has_line_feed : List ℕ → Bool
 has_line_feed bytes = list_any (λ byte. byte == 10) bytes
 
--- whether the last byte is a carriage return
-abbrev pub ends_in_return : List ℕ → Bool
-ends_in_return line = slice_index line (length line - 1) == 13
-
 -- the line without a carriage return at its end
 abbrev pub without_return : List ℕ → List ℕ
-without_return line = if ends_in_return line then take (length line - 1) line else line
+without_return [] = []
+without_return (byte ∷ []) = if byte == 13 then [] else byte ∷ []
+without_return (byte ∷ next ∷ bytes) = byte ∷ without_return (next ∷ bytes)
 
 -- Whether a line of which so much has come is too long, whatever comes next: a carriage return at its
 -- end may still be dropped.

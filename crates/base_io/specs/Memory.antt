@@ -1,14 +1,11 @@
 -- The forms in memory: what they are seen as, and what each call does.
-use Rattle.std.specs.Prelude.{ℕ, ◌+◌, ◌-◌, ◌^◌, min, Bool, true, false, ◌≡◌, ◌==◌, ◌⊎◌, List, ◌++◌, length, drop}
+use Rattle.std.specs.Prelude.{ℕ, min, Bool, true, false, ◌≡◌, ◌==◌, ◌⊎◌, List, ◌++◌, length, drop}
 use Rattle.std.specs.List.{list_any}
+use Rattle.base_names.specs.Outside.{one_more}
 use Rattle.base_io.specs.declared.source.Got.{Got}
 use Rattle.base_io.specs.declared.source.Got.TheVariants.{Bytes as Gave, Failed as GaveNone}
 use Rattle.base_io.specs.declared.sink.Took.{Took}
 use Rattle.base_io.specs.declared.sink.Took.TheVariants.{Bytes as Kept, Failed as KeptNone}
-
--- one more, in a count that stays at the end of its type
-abbrev pub one_more : ℕ → ℕ
-one_more count = min (count + 1) (2 ^ 64 - 1)
 
 -- whether the list of calls that fail has this number
 abbrev pub is_listed : ℕ → List ℕ → Bool

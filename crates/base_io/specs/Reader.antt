@@ -1,5 +1,5 @@
 -- What a reader of lines is seen as, and what its calls do.
-use Rattle.std.specs.Prelude.{ℕ, ◌+◌, ◌<◌, ◌≤◌, ◌≡◌, ◌⊎◌, true, false, List, [], ◌∷◌, ◌++◌, length, Option, None, Result, Ok, Err, min}
+use Rattle.std.specs.Prelude.{ℕ, ◌+◌, ◌<◌, ◌≤◌, ◌≡◌, ◌⊎◌, true, false, List, [], ◌∷◌, ◌++◌, length, Option, None, Result, Ok, Err}
 use Rattle.base_names.specs.declared.memory.NoMemory.{NoMemory}
 use Rattle.base_names.specs.Outside.{Reads, IsAtEnd}
 use Rattle.base_io.specs.declared.limits.TheConstants.{LINE_LIMIT, INPUT_LIMIT, READ_LIMIT}
@@ -62,13 +62,17 @@ pub record IsLongLine (held : Held) : Type 0 where
   pub one : has_line_feed line ≡ false
   pub long : (is_too_long line ≡ true) ⊎ ((LINE_LIMIT < length line) × (held.ended ≡ true) × (rest ≡ []))
 
--- The input reaches its limit with the line that begins with what is held, or with the byte behind it.
+-- An input of which so much was given reaches its limit with this line, or with the byte behind it.
+abbrev pub ReachesLimit : (given : ℕ) (line rest : List ℕ) → Type 0
+ReachesLimit given line rest = (INPUT_LIMIT ≤ given + length line) ⊎ ((0 < length rest) × (INPUT_LIMIT ≤ given + length line + 1))
+
+-- the input reaches its limit so with the line that begins with what is held
 pub record IsLongInput (held : Held) : Type 0 where
   pub line : List ℕ
   pub rest : List ℕ
   pub whole : held.bytes ≡ line ++ rest
   pub one : has_line_feed line ≡ false
-  pub long : INPUT_LIMIT ≤ held.given + length line + min 1 (length rest)
+  pub long : ReachesLimit held.given line rest
 
 -- no more than a part of a line is held
 pub record IsPartOfLine (held : Held) : Type 0 where

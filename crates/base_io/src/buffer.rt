@@ -80,10 +80,8 @@ impl Buffer {
         self.bytes.shrink_to(USUAL_LEN);
     }
 
-    /// Makes room for a read. In all `whole` bytes may come to be held.
-    fn make_room(&mut self, whole: usize) -> Result<(), NoMemory>
-        requires fits { length self.old.held ≤ whole }
-        requires small { whole < 2 ^ 33 }
+    /// Makes room for a read. The buffer grows to twice what is held, and not to what a caller waits for.
+    fn make_room(&mut self) -> Result<(), NoMemory>
         ensures held { self.new.held ≡ self.old.held }
         ensures room { OnOk result (0 < self.new.room) }
     {
@@ -94,21 +92,19 @@ impl Buffer {
         self.end -= self.start;
         self.start = 0;
         if self.bytes.len() - self.end < READ_LEN {
-            self.bytes.resize((whole + READ_LEN).max(USUAL_LEN), 0)?;
+            self.bytes.resize((2 * self.end).max(USUAL_LEN), 0)?;
         }
         Ok(())
     }
 
-    /// Reads once, to the end of what is held. In all `whole` bytes may come to be held.
-    pub fn read_more<S: Source>(&mut self, source: &mut S, whole: usize) -> Result<Got, NoMemory>
-        requires fits { length self.old.held ≤ whole }
-        requires small { whole < 2 ^ 33 }
+    /// Reads once, to the end of what is held.
+    pub fn read_more<S: Source>(&mut self, source: &mut S) -> Result<Got, NoMemory>
         ensures same { S.name source.new ≡ S.name source.old }
         ensures fills { Fills result self.old.held self.new.held (S.left source.old) (S.left source.new) }
         ensures later { S.faults source.old ≤ S.faults source.new }
         ensures failed { result ≡ Ok Got.Failed → Rose (S.faults source.old) (S.faults source.new) }
     {
-        self.make_room(whole)?;
+        self.make_room()?;
         let got = read_once(source, &mut self.bytes[self.end..]);
         if let Got::Bytes(n) = got {
             self.end += n;

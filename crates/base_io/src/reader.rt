@@ -109,7 +109,7 @@ impl LineReader {
             if self.ended {
                 return Ok(Piece::End);
             }
-            match self.buffer.read_more(source, wanted)? {
+            match self.buffer.read_more(source)? {
                 Got::Bytes(0) => self.ended = true,
                 Got::Bytes(_) => {}
                 Got::Failed => return Ok(Piece::ReadFault),
@@ -151,7 +151,7 @@ impl LineReader {
             if self.ended {
                 return Ok(LineEnd::Input);
             }
-            match self.buffer.read_more(source, scanned)? {
+            match self.buffer.read_more(source)? {
                 Got::Bytes(0) => self.ended = true,
                 Got::Bytes(_) => {}
                 Got::Failed => return Ok(LineEnd::ReadFault),

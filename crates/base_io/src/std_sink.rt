@@ -1,10 +1,11 @@
 //! A sink over a writer of std.
 
-ghost use Rattle.std.specs.Prelude.{◌≡◌};
+ghost use Rattle.std.specs.Prelude.{◌≡◌, ◌≤◌, None};
+ghost use Rattle.base_names.specs.Outside.{Rose, Writes};
+ghost use Rattle.base_io.specs.Std.{IsAnswerOfWrite, WritesInner};
 
 use crate::sink::{Sink, Took};
-use std::io::{ErrorKind, Write};
-use std::marker::Model;
+use std::io::{self, ErrorKind, Write};
 
 /// A writer of std. It tells nothing of what was written, and counts its errors. An interrupted write is
 /// tried again, and one that takes nothing is an error.
@@ -14,19 +15,11 @@ pub struct StdSink<X> {
     failed: u64,
 }
 
-// Seen as the count of its errors.
-impl<X> Model for StdSink<X> {
-    ghost use Rattle.std.specs.Prelude.{ℕ};
-
-    ghost Value = { ℕ };
-
-    ghost view = { λ s. s.failed };
-}
-
 impl<X> StdSink<X> {
     /// No error so far.
     pub fn new(inner: X) -> StdSink<X>
-        ensures { result ≡ 0 }
+        ensures inner { result.inner ≡ inner }
+        ensures failed { result.failed ≡ 0 }
     {
         StdSink { inner, failed: 0 }
     }
@@ -34,20 +27,25 @@ impl<X> StdSink<X> {
 
 impl<X: Write> Sink for StdSink<X> {
     ghost use Rattle.std.specs.Prelude.{None};
+    ghost use Rattle.base_io.specs.Sink.{bytes_took, TakesSome};
 
     ghost name = { λ _. 0 };
 
     ghost contents = { λ _. None };
 
-    ghost faults = { λ s. s };
+    ghost faults = { λ s. s.failed };
 
-    fn write(&mut self, bytes: &[u8]) -> Took {
+    fn write(&mut self, bytes: &[u8]) -> Took
+        ensures count { TakesSome result bytes.now }
+        ensures later { self.old.failed ≤ self.new.failed }
+        ensures failed { result ≡ Took.Failed → Rose self.old.failed self.new.failed }
+        ensures inner { WritesInner (X.contents self.old.inner) (X.contents self.new.inner) result bytes.now }
+    {
         for _ in 0..u64::MAX {
-            match self.inner.write(bytes) {
-                Ok(0) => break,
-                Ok(n) => return Took::Bytes(n),
-                Err(error) if error.kind() == ErrorKind::Interrupted => {}
-                Err(_) => break,
+            match answer_of(self.inner.write(bytes)) {
+                Some(Took::Bytes(n)) => return Took::Bytes(n),
+                Some(Took::Failed) => break,
+                None => {}
             }
         }
         self.failed = self.failed.saturating_add(1);
@@ -55,19 +53,14 @@ impl<X: Write> Sink for StdSink<X> {
     }
 }
 
-#[cfg(test)]
-mod tests {
-    use super::*;
-    use std::test::Fail;
-
-    #[test]
-    fn writes_and_counts(rt: HostRuntime) -> Result<(), Fail> {
-        let mut sink = StdSink::new(Vec::new(rt.alloc()));
-        assert_eq!(rt; sink.write(b"one"), Took::Bytes(3));
-        assert_eq!(rt; sink.write(b"two"), Took::Bytes(3));
-        let mut full: [u8; 0] = [];
-        let mut none = StdSink::new(full.as_mut_slice());
-        assert_eq!(rt; none.write(b"x"), Took::Failed);
-        Ok(())
+/// What comes of an answer of the writer. `None` where it was interrupted.
+fn answer_of(write: io::Result<usize>) -> Option<Took>
+    ensures { IsAnswerOfWrite write result }
+{
+    match write {
+        Ok(0) => Some(Took::Failed),
+        Ok(n) => Some(Took::Bytes(n)),
+        Err(error) if error.kind() == ErrorKind::Interrupted => None,
+        Err(_) => Some(Took::Failed),
     }
 }

@@ -1,10 +1,11 @@
 //! A source over a reader of std.
 
-ghost use Rattle.std.specs.Prelude.{◌≡◌};
+ghost use Rattle.std.specs.Prelude.{◌≡◌, ◌≤◌, ◌<◌, None, length};
+ghost use Rattle.base_names.specs.Outside.{Rose, Reads, IsAtEnd};
+ghost use Rattle.base_io.specs.Std.{IsAnswerOfRead, ReadsInner};
 
 use crate::source::{Got, Source};
-use std::io::{ErrorKind, Read};
-use std::marker::Model;
+use std::io::{self, ErrorKind, Read};
 
 /// A reader of std. It tells nothing of what it holds, and counts its errors. An interrupted read is
 /// tried again.
@@ -14,19 +15,11 @@ pub struct StdSource<X> {
     failed: u64,
 }
 
-// Seen as the count of its errors.
-impl<X> Model for StdSource<X> {
-    ghost use Rattle.std.specs.Prelude.{ℕ};
-
-    ghost Value = { ℕ };
-
-    ghost view = { λ s. s.failed };
-}
-
 impl<X> StdSource<X> {
     /// No error so far.
     pub fn new(inner: X) -> StdSource<X>
-        ensures { result ≡ 0 }
+        ensures inner { result.inner ≡ inner }
+        ensures failed { result.failed ≡ 0 }
     {
         StdSource { inner, failed: 0 }
     }
@@ -34,19 +27,25 @@ impl<X> StdSource<X> {
 
 impl<X: Read> Source for StdSource<X> {
     ghost use Rattle.std.specs.Prelude.{None};
+    ghost use Rattle.base_io.specs.Source.{bytes_got, FitsBuffer};
 
     ghost name = { λ _. 0 };
 
     ghost left = { λ _. None };
 
-    ghost faults = { λ s. s };
+    ghost faults = { λ s. s.failed };
 
-    fn read(&mut self, buf: &mut [u8]) -> Got {
+    fn read(&mut self, buf: &mut [u8]) -> Got
+        ensures count { FitsBuffer result buf.new }
+        ensures later { self.old.failed ≤ self.new.failed }
+        ensures failed { result ≡ Got.Failed → Rose self.old.failed self.new.failed }
+        ensures inner { ReadsInner (X.remaining self.old.inner) (X.remaining self.new.inner) result buf.new }
+    {
         for _ in 0..u64::MAX {
-            match self.inner.read(buf) {
-                Ok(n) => return Got::Bytes(n),
-                Err(error) if error.kind() == ErrorKind::Interrupted => {}
-                Err(_) => break,
+            match answer_of(self.inner.read(buf)) {
+                Some(Got::Bytes(n)) => return Got::Bytes(n),
+                Some(Got::Failed) => break,
+                None => {}
             }
         }
         self.failed = self.failed.saturating_add(1);
@@ -54,21 +53,13 @@ impl<X: Read> Source for StdSource<X> {
     }
 }
 
-#[cfg(test)]
-mod tests {
-    use super::*;
-    use std::test::Fail;
-
-    #[test]
-    fn reads_to_the_end(rt: HostRuntime) -> Result<(), Fail> {
-        let text: &[u8] = b"one\ntwo";
-        let mut source = StdSource::new(text);
-        let mut buf = [0u8; 5];
-        assert_eq!(rt; source.read(&mut buf), Got::Bytes(5));
-        assert_eq!(rt; buf.as_slice(), b"one\nt".as_slice());
-        assert_eq!(rt; source.read(&mut buf), Got::Bytes(2));
-        assert_eq!(rt; buf.as_slice(), b"woe\nt".as_slice());
-        assert_eq!(rt; source.read(&mut buf), Got::Bytes(0));
-        Ok(())
+/// What comes of an answer of the reader. `None` where it was interrupted.
+fn answer_of(read: io::Result<usize>) -> Option<Got>
+    ensures { IsAnswerOfRead read result }
+{
+    match read {
+        Ok(n) => Some(Got::Bytes(n)),
+        Err(error) if error.kind() == ErrorKind::Interrupted => None,
+        Err(_) => Some(Got::Failed),
     }
 }

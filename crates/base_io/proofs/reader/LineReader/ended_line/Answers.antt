@@ -1,9 +1,15 @@
 use Rattle.std.proofs.Common.{ℕ, ◌+◌, ◌<◌, List, length, take, ap, ◌∙◌, arith}
+use Rattle.std.proofs.lemmas.List.{length-take}
 use Rattle.base_io.specs.Held.{Held}
 use Rattle.base_io.specs.Lines.{without_return}
 use Rattle.base_io.specs.declared.limits.TheConstants.{INPUT_LIMIT}
-use Rattle.base_io.proofs.Giving.{gives_ended_line}
+use Rattle.base_io.proofs.Giving.{gives_ended_line, length-without_return}
 use Rattle.base_io.proofs.reader.LineReader.ended_line.Goals as goal
+
+pub give-requires-clause-short : goal.give-requires-clause-short
+give-requires-clause-short c =
+    let body = take c.args.place c.held.result.now in
+    omega (arith, ap length c.trim_return-len.ensures, (length-without_return body).0, length-take c.args.place c.held.result.now)
 
 pub returns-clause-line : goal.returns-clause-line
 returns-clause-line c =

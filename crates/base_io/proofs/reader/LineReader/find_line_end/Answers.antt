@@ -1,8 +1,11 @@
-use Rattle.std.proofs.Common.{◌≡◌, ◌+◌, ◌<◌, length, true, refl, subst, [], inl, inr, sym, ap, ◌∙◌, arith}
+use Rattle.std.proofs.Common.{◌≡◌, ◌+◌, ◌<◌, length, length-append, true, false, refl, subst, [], inl, inr, sym, ap, ◌∙◌, arith}
 use Rattle.std.proofs.lemmas.List.{append-nil}
 use Rattle.base_io.specs.declared.limits.TheConstants.{INPUT_LIMIT}
 use Rattle.base_io.specs.Held.{Held}
-use Rattle.base_io.specs.Lines.{has_line_feed, is_too_long}
+use Rattle.std.proofs.lemmas.Bool.{ltb-false}
+use Rattle.base_io.specs.declared.limits.TheConstants.{LINE_LIMIT}
+use Rattle.base_io.specs.Lines.{has_line_feed, without_return, is_too_long}
+use Rattle.base_io.proofs.Giving.{length-without_return}
 use Rattle.base_io.specs.Reader.{IsPartOfLine, Moves}
 use Rattle.base_io.proofs.LineFeeds.{none_found, some_found}
 use Rattle.base_io.proofs.Giving.{Moves-none}
@@ -39,7 +42,7 @@ returns-then-is_line_too_long-clause-found g c =
       | then-is_line_too_long-via-then-is_line_too_long w ↦
           (moves, inl (record { line = held; rest = []; whole = sym (append-nil held); one = one; long = inl (ap is_too_long (sym same) ∙ (sym long ∙ w.if-is_line_too_long.true)) }))
       | then-is_line_too_long-via-else-is_line_too_long+then-is_input_too_long w ↦
-          (moves, inr (record { line = held; rest = []; whole = sym (append-nil held); one = one; long = omega (arith, ap length same, w.is_input_too_long.ensures.yes w.if-is_input_too_long.true) }))
+          (moves, inr (record { line = held; rest = []; whole = sym (append-nil held); one = one; long = inl (omega (arith, ap length same, w.is_input_too_long.ensures.yes w.if-is_input_too_long.true)) }))
     ]
 
 pub returns-then-self-clause-found : goal.returns-then-self-clause-found
@@ -95,4 +98,20 @@ returns-in-Failed-clause-found g c =
         short = ap is_too_long whole ∙ (sym c.is_line_too_long.ensures ∙ c.if-is_line_too_long.false);
         below = omega (arith, ap length whole, c.is_input_too_long.ensures.no c.if-is_input_too_long.false);
       },
+    )
+
+pub loop-place-smaller : goal.loop-place-smaller
+loop-place-smaller g c =
+    let held = c.held-held.result.now in
+    let few : is_too_long held ≡ false = sym c.is_line_too_long.ensures ∙ c.if-is_line_too_long.false in
+    let fills = rw c.in-Bytes.is at c.in_ok-read_more.ensures.fills in
+    omega (
+      arith,
+      ltb-false LINE_LIMIT (length (without_return held)) few,
+      (length-without_return held).1,
+      ap length c.held-held.ensures,
+      ap length fills.2,
+      length-append c.loop-place.self-inside.buffer.held fills.0,
+      fills.3,
+      c.in-Bytes.field-0-test.1,
     )
