@@ -2,7 +2,7 @@
 -- What is made of operations ends at the first one that does not fit, in the order in which they stand here.
 use Rattle.std.specs.Prelude.{◌≡◌, ◌+◌, IfSome, ℕ, ◌^◌, ◌<◌, ◌≤◌, All, Err, is_some, zero, suc, ◌-◌, ◌==◌, List, [], ◌∷◌, ◌++◌, take, drop, length, map, remove, replicate, slice_index, slice_index_or, slice_set, Bool, if◌then◌else◌, Option, Some, None, Result, Ok}
 use Rattle.std.specs.List.{list_any, position_or_len}
-use Rattle.frac128.specs.Checked.{checked_difference, checked_product, checked_quotient, checked_sum, ◌>>=◌}
+use Rattle.frac128.specs.Checked.{checked_product, checked_quotient, less_product, plus_product, ◌>>=◌}
 use Rattle.frac128.specs.Fraction.{Fraction, negation, one_value, zero_value}
 use Rattle.frac128.specs.Numbers.{is_below_zero}
 use Rattle.frac128.specs.declared.operations.Wide.{Wide}
@@ -122,18 +122,6 @@ each_option f None = Ok None
 each_option f (Some x) = do
   y ← f x
   Ok (Some y)
-
--- x - f * y
-abbrev pub less_product : Fraction → Fraction → Fraction → Result Fraction Wide
-less_product f x y = do
-  product ← checked_product f y
-  checked_difference x product
-
--- x + f * y
-abbrev pub plus_product : Fraction → Fraction → Fraction → Result Fraction Wide
-plus_product f x y = do
-  product ← checked_product f y
-  checked_sum x product
 
 -- The row solved for the variable of column c: all but the entry p of this column is divided by p, and last this entry
 -- becomes 1 / p.

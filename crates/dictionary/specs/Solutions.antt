@@ -1,18 +1,14 @@
 -- What a dictionary says of values of its variables: which of them it allows, and what the objectives are there.
-use Rattle.std.specs.Prelude.{◌≡◌, ◌≢◌, ℕ, ◌-◌, ◌<◌, ◌≤◌, ◌==◌, All, AllPairs, IfSome, List, [], ◌∷◌, ◌++◌, drop, length, slice_index, slice_index_or, if◌then◌else◌, Option, Some, option_map, Ok, pos, unsigned_abs}
-use Rattle.std.specs.Int.{IsGcd}
+use Rattle.std.specs.Prelude.{◌≡◌, ◌≢◌, ℕ, ◌-◌, ◌<◌, ◌≤◌, ◌==◌, All, AllPairs, IfSome, List, [], ◌∷◌, ◌++◌, drop, length, slice_index, slice_index_or, if◌then◌else◌, Option, Some, option_map, Ok, pos}
 use Rattle.std.specs.List.{position_or_len}
-use Rattle.frac128.specs.Fraction.{Fraction, den, exact_difference, exact_product, exact_sum, negation, zero_value}
+use Rattle.frac128.specs.Fraction.{Fraction, exact_difference, exact_product, exact_sum, negation, zero_value}
+use Rattle.frac128.specs.Lowest.{IsInLowestTerms}
 use Rattle.frac128.specs.Order.{IsAtMost, IsBelow}
 use Rattle.dictionary.specs.declared.standard.Std.{Std}
 use Rattle.dictionary.specs.Dictionary.{Dictionary, IsInShape, entry, pivot, row_at}
 use Rattle.dictionary.specs.Rule.{Ratio, entering_column, leaving_row, ratios}
 
 -- ---- points and solutions
-
--- in lowest terms, whatever the size of the parts
-pub record IsReduced (x : Fraction) : Type 0 where
-  pub nothing_in_common : IsGcd (unsigned_abs x.num) (den x) 1
 
 -- a value for each variable, by index
 abbrev pub Point : Type 0
@@ -34,7 +30,7 @@ told_at d x row = exact_difference (entry row 0) (columns_at d x row)
 
 -- The point is a solution: its values are in lowest terms, and each basic variable is what its row tells.
 pub record Solves (d : Dictionary) (x : Point) : Type 0 where
-  pub reduced : (v : ℕ) → IsReduced (x v)
+  pub reduced : (v : ℕ) → IsInLowestTerms (x v)
   pub rows : (r : ℕ) → 0 < r → r ≤ length d.basic → x (slice_index d.basic (r - 1)) ≡ told_at d x (row_at d.rows r)
 
 -- an objective's constant and what the columns add up to
@@ -62,9 +58,9 @@ own_point d v = entry (slice_index_or d.rows (position_or_len (λ b. b == v) d.b
 
 -- Each number of a dictionary is in lowest terms.
 pub record HasReducedEntries (d : Dictionary) : Type 0 where
-  pub rows : All (All IsReduced) d.rows
-  pub objective : All IsReduced d.objective
-  pub auxiliary : IfSome d.auxiliary (All IsReduced)
+  pub rows : All (All IsInLowestTerms) d.rows
+  pub objective : All IsInLowestTerms d.objective
+  pub auxiliary : IfSome d.auxiliary (All IsInLowestTerms)
 
 -- A dictionary in shape, with numbers in lowest terms, where no variable stands twice.
 pub record IsLawful (d : Dictionary) : Type 0 where
@@ -74,10 +70,10 @@ pub record IsLawful (d : Dictionary) : Type 0 where
 
 -- Each number of a standard form is in lowest terms.
 pub record HasReducedNumbers (s : Std) : Type 0 where
-  pub coefs : All (λ row. All IsReduced row.coefs) s.rows
-  pub sides : All (λ row. IsReduced row.rhs) s.rows
-  pub obj : All IsReduced s.obj
-  pub constant : IsReduced s.constant
+  pub coefs : All (λ row. All IsInLowestTerms row.coefs) s.rows
+  pub sides : All (λ row. IsInLowestTerms row.rhs) s.rows
+  pub obj : All IsInLowestTerms s.obj
+  pub constant : IsInLowestTerms s.constant
 
 -- A pivot on row r and column c, whose entry there is not 0, makes e of d.
 pub record Pivots (r c : ℕ) (d e : Dictionary) : Type 0 where

@@ -3,8 +3,8 @@
 //! A row that could not be changed to its end holds anything, but as many entries as before.
 ghost use Rattle.std.specs.Prelude.{◌≡◌, ◌≢◌, ◌-◌, ◌*◌, ◌+◌, ◌<◌, ◌≤◌, is_some, length, option_map, pos};
 ghost use Rattle.std.specs.Option.{ForSome};
-ghost use Rattle.frac128.specs.Checked.{checked_quotient};
-ghost use Rattle.dictionary.specs.Dictionary.{each, each_option, each_pair, eliminated_basic, eliminated_entries, eliminated_objective, entry, less_product, pivoted_rows, plus_product, row_at, solved_row, with_value};
+ghost use Rattle.frac128.specs.Checked.{checked_quotient, less_product, plus_product};
+ghost use Rattle.dictionary.specs.Dictionary.{each, each_option, each_pair, eliminated_basic, eliminated_entries, eliminated_objective, entry, pivoted_rows, row_at, solved_row, with_value};
 ghost use Rattle.dictionary.specs.Cells.{rows_of};
 
 use frac128::{Frac, Wide};

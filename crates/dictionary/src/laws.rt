@@ -5,7 +5,8 @@ ghost use Rattle.frac128.specs.Order.{IsAtMost, IsBelow};
 ghost use Rattle.dictionary.specs.declared.standard.Std.{Std};
 ghost use Rattle.dictionary.specs.Dictionary.{Dictionary, IsInShape, IsUniform, artificial_column, end_phase_one, entry, needs_phase_one, opening, pivot, row_at, with_artificial, without_artificial};
 ghost use Rattle.dictionary.specs.Rule.{Ratio, entering_column, leaving_row, least_row, maximized_row, ratios};
-ghost use Rattle.dictionary.specs.Solutions.{HasFeasibleConstants, HasNoArtificial, HasNoRise, HasReducedNumbers, IsFeasible, IsLawful, IsPhaseOne, IsReduced, Pivots, PivotsByRule, Point, RisesFreely, Solves, auxiliary_at, objective_at, own_point, total_at, without_artificial_value};
+ghost use Rattle.dictionary.specs.Solutions.{HasFeasibleConstants, HasNoArtificial, HasNoRise, HasReducedNumbers, IsFeasible, IsLawful, IsPhaseOne, Pivots, PivotsByRule, Point, RisesFreely, Solves, auxiliary_at, objective_at, own_point, total_at, without_artificial_value};
+ghost use Rattle.frac128.specs.Lowest.{IsInLowestTerms};
 
 /// A pivot keeps the solutions, and at each of them the objectives.
 pub fn a_pivot_keeps_solutions()
@@ -38,15 +39,16 @@ pub fn without_a_rise_the_own_point_is_best()
 {}
 
 /// Where a column rises freely, z rises along it without end: with each value that is at least 0 of the column's variable there
-/// is a feasible solution, and some are above each number.
+/// is a feasible solution, and some are above each number. The artificial variable is 0 there, where the dictionary has none.
 pub fn a_free_rise_is_unbounded()
-    ensures along { (c : ℕ) (d : Dictionary) (t : Fraction) → IsLawful d → HasFeasibleConstants d → RisesFreely c d → IsReduced t
+    ensures along { (c : ℕ) (d : Dictionary) (t : Fraction) → IsLawful d → HasFeasibleConstants d → RisesFreely c d → IsInLowestTerms t
         → IsAtMost zero_value t
-        → (x : Point) × IsFeasible d x × (objective_at d x ≡ exact_sum (entry d.objective 0) (exact_product (entry d.objective c) t)) }
-    ensures above { (c : ℕ) (d : Dictionary) (y : Fraction) → IsLawful d → HasFeasibleConstants d → RisesFreely c d → IsReduced y
-        → (x : Point) × IsFeasible d x × IsBelow y (objective_at d x) }
+        → (x : Point) × IsFeasible d x × (objective_at d x ≡ exact_sum (entry d.objective 0) (exact_product (entry d.objective c) t))
+        × (HasNoArtificial d → x 0 ≡ zero_value) }
+    ensures above { (c : ℕ) (d : Dictionary) (y : Fraction) → IsLawful d → HasFeasibleConstants d → RisesFreely c d → IsInLowestTerms y
+        → (x : Point) × IsFeasible d x × IsBelow y (objective_at d x) × (HasNoArtificial d → x 0 ≡ zero_value) }
     ensures above_whole { (c : ℕ) (d : Dictionary) (n : ℤ) → IsLawful d → HasFeasibleConstants d → RisesFreely c d
-        → (x : Point) × IsFeasible d x × IsBelow (fraction n 1) (objective_at d x) }
+        → (x : Point) × IsFeasible d x × IsBelow (fraction n 1) (objective_at d x) × (HasNoArtificial d → x 0 ≡ zero_value) }
 {}
 
 /// Where w is minus the artificial variable, and no coefficient of w is above 0 but its constant below 0, no feasible solution

@@ -5,22 +5,24 @@ use Rattle.frac128.specs.Order.{IsAtMost, IsBelow}
 use Rattle.frac128.proofs.Ordered.{IsAtMost-negation, IsBelow-not}
 use Rattle.dictionary.specs.Dictionary.{Dictionary, entry}
 use Rattle.dictionary.specs.Rule.{Ratio, entering_column, leaving_row, ratios}
-use Rattle.dictionary.specs.Solutions.{HasFeasibleConstants, IsLawful, IsPhaseOne, IsReduced, total_at}
+use Rattle.dictionary.specs.Solutions.{HasFeasibleConstants, IsLawful, IsPhaseOne, total_at}
+use Rattle.frac128.specs.Lowest.{IsInLowestTerms}
 use Rattle.dictionary.proofs.Points.ExactPivot.{same_some}
 use Rattle.dictionary.proofs.Points.Chosen.{entering-some, leaving-none}
 use Rattle.dictionary.proofs.Points.FreeRise.{along, along-columns, along-feasible, rise_above}
 use Rattle.dictionary.proofs.Points.Lawful.{IsWide}
 use Rattle.dictionary.proofs.Points.OwnPoint.{constant-wide}
 use Rattle.dictionary.proofs.Points.PhaseOne.{auxiliary_all}
-use Rattle.dictionary.proofs.Points.Sums.{◌⊕◌, ◌⊗◌, IsReduced-zero}
+use Rattle.frac128.proofs.Sums.{◌⊕◌, ◌⊗◌}
+use Rattle.frac128.proofs.Field.{apart_of-zero}
 
 -- w cannot rise without end
 not_free : (j : ℕ) (d : Dictionary) (w : List Fraction) → IsLawful d → IsPhaseOne d → HasFeasibleConstants d → d.auxiliary ≡ Some w → j < length d.nonbasic → IsBelow zero_value (entry w (suc j))
     → All (λ row. IsAtMost (entry row (suc j)) zero_value) d.rows → ⊥
 not_free j d w lawful phase constants is_w within steep free =
     let wide = auxiliary_all (IsWide (length d.nonbasic)) d w lawful.shape.auxiliary_entries is_w in
-    let low = constant-wide (length d.nonbasic) w wide (auxiliary_all (All IsReduced) d w lawful.reduced.auxiliary is_w) in
-    let rise = rise_above (entry w 0) (entry w (suc j)) zero_value low IsReduced-zero steep in
+    let low = constant-wide (length d.nonbasic) w wide (auxiliary_all (All IsInLowestTerms) d w lawful.reduced.auxiliary is_w) in
+    let rise = rise_above (entry w 0) (entry w (suc j)) zero_value low apart_of-zero steep in
     let x = along j rise.value d in
     let feasible = along-feasible j rise.value d lawful constants within free rise.reduced rise.at_least_zero in
     let is_total : Some (total_at d x w) ≡ Some (negation (x 0)) = subst (λ o. option_map (total_at d x) o ≡ Some (negation (x 0))) is_w (phase.is_negation x feasible.solves) in

@@ -15,7 +15,8 @@ use Rattle.dictionary.specs.Dictionary.{Dictionary, IsInShape, each, entry}
 use Rattle.dictionary.specs.Rule.{Column, Ratio, RowAhead, best_among, bounding_rows, columns_from, columns_of, entering_column, is_above_zero, is_positive, leaves_before, leaves_before_by, leaving_row, maximized_row, ratio_of, ratios, rows_from}
 use Rattle.dictionary.specs.Solutions.{HasNoRise}
 use Rattle.dictionary.proofs.Points.Lawful.{IsWide, wide_entries}
-use Rattle.dictionary.proofs.Points.ExactPivot.{fitting, same_ok, same_some, step}
+use Rattle.frac128.proofs.Chains.{fitting, same_ok, through}
+use Rattle.dictionary.proofs.Points.ExactPivot.{same_some}
 use Rattle.dictionary.proofs.Points.Turned.{entry-behind}
 
 -- ---- signs
@@ -216,11 +217,11 @@ rows-known c r (v ∷ vs) (row ∷ rows) =
 
 -- what is known of each result of what is known of each
 all_each : {A B E : Type 0} (f : A → Result B E) (P : A → Type 0) (Q : B → Type 0) → ((x : A) (y : B) → P x → f x ≡ Ok y → Q y) → (xs : List A) (ys : List B) → All P xs → each f xs ≡ Ok ys → All Q ys
-all_each f P Q made [] ys all h = subst (All Q) (same_ok h) (All-nil Q)
+all_each f P Q made [] ys all h = subst (All Q) (same_ok _ _ h) (All-nil Q)
 all_each f P Q made (x ∷ xs) ys all h =
-    let first = step (f x) _ ys h in
-    let others = step (each f xs) _ ys first.2 in
-    subst (All Q) (same_ok others.2) (All-cons Q first.0 others.0 (made x first.0 (All-head P x xs all) first.1) (all_each f P Q made xs others.0 (All-tail P x xs all) others.1))
+    let first = through (f x) _ ys h in
+    let others = through (each f xs) _ ys first.rest in
+    subst (All Q) (same_ok _ _ others.rest) (All-cons Q first.value others.value (made x first.value (All-head P x xs all) first.first) (all_each f P Q made xs others.value (All-tail P x xs all) others.first))
 
 -- no row bounds just where no entry is above 0
 none_bounds : (c r : ℕ) (basic : List ℕ) (rows : List (List Fraction)) → length rows ≡ length basic → filter bounds (rows_from c r basic rows) ≡ [] → All (λ row. IsAtMost (entry row c) zero_value) rows
@@ -236,9 +237,9 @@ none_bounds c r (v ∷ vs) (row ∷ rows) same h = by_test (none_bounds c (suc r
 each-none : {A B E : Type 0} (f : A → Result B E) (xs : List A) → each f xs ≡ Ok [] → xs ≡ []
 each-none f [] h = refl
 each-none f (x ∷ xs) h =
-    let first = step (f x) _ [] h in
-    let others = step (each f xs) _ [] first.2 in
-    absurd (let e = others.2 in cc)
+    let first = through (f x) _ [] h in
+    let others = through (each f xs) _ [] first.rest in
+    absurd (let e = others.rest in cc)
 
 pub leaving-none : (d : Dictionary) (c : ℕ) (rs : List Ratio) → IsInShape d → ratios d c ≡ Ok rs → leaving_row rs ≡ None → All (λ row. IsAtMost (entry row c) zero_value) d.rows
 unfolding ratios leaving_row
@@ -256,11 +257,11 @@ record KnownRatio (c : ℕ) (d : Dictionary) (ratio : Ratio) : Type 0 where
   is_value : ratio.value ≡ exact_quotient (entry (slice_index_or d.rows place []) 0) (entry (slice_index_or d.rows place []) c)
 
 -- a ratio's parts
-ratio-made : (row : RowAhead) (ratio : Ratio) → ratio_of row ≡ Ok ratio → (ratio.row ≡ row.row) × (ratio.value ≡ exact_quotient row.constant row.entry)
+pub ratio-made : (row : RowAhead) (ratio : Ratio) → ratio_of row ≡ Ok ratio → (ratio.row ≡ row.row) × (ratio.value ≡ exact_quotient row.constant row.entry)
 ratio-made row ratio h =
-    let value = step (checked_quotient row.constant row.entry) _ ratio h in
-    let whole = same_ok value.2 in
-    (sym (ap (λ r. r.row) whole), sym (ap (λ r. r.value) whole) ∙ fitting (quotient_fits row.constant row.entry) (exact_quotient row.constant row.entry) Div row.constant row.entry value.0 value.1)
+    let value = through (checked_quotient row.constant row.entry) _ ratio h in
+    let whole = same_ok _ _ value.rest in
+    (sym (ap (λ r. r.row) whole), sym (ap (λ r. r.value) whole) ∙ fitting (quotient_fits row.constant row.entry) (exact_quotient row.constant row.entry) Div row.constant row.entry value.value value.first)
 
 ratio-known : (c : ℕ) (d : Dictionary) (row : RowAhead) (ratio : Ratio) → KnownRow c 1 d.basic d.rows row → bounds row ≡ true → ratio_of row ≡ Ok ratio → KnownRatio c d ratio
 ratio-known c d row ratio known positive h =
@@ -290,16 +291,16 @@ each_bound v c r (b ∷ bs) (row ∷ rows) rs same h all k within positive =
         → (k : ℕ) → k < suc (length rows) → is_positive (entry (slice_index_or (row ∷ rows) k []) c) ≡ true → IsAtMost v (exact_quotient (entry (slice_index_or (row ∷ rows) k []) 0) (entry (slice_index_or (row ∷ rows) k []) c))
     by_test others true is e zero below is_positive_here =
         let ahead : RowAhead = record { row = r; variable = b; constant = entry row 0; entry = entry row c } in
-        let first = step (ratio_of ahead) _ rs e in
-        let rest = step (each ratio_of (filter bounds (rows_from c (suc r) bs rows))) _ rs first.2 in
-        let most = All-head (λ ratio. IsAtMost v ratio.value) first.0 rest.0 (subst (All (λ ratio. IsAtMost v ratio.value)) (sym (same_ok rest.2)) all) in
-        subst (IsAtMost v) (ratio-made ahead first.0 first.1).1 most
+        let first = through (ratio_of ahead) _ rs e in
+        let rest = through (each ratio_of (filter bounds (rows_from c (suc r) bs rows))) _ rs first.rest in
+        let most = All-head (λ ratio. IsAtMost v ratio.value) first.value rest.value (subst (All (λ ratio. IsAtMost v ratio.value)) (sym (same_ok _ _ rest.rest)) all) in
+        subst (IsAtMost v) (ratio-made ahead first.value first.first).1 most
     by_test others true is e (suc k) below is_positive_there =
         let ahead : RowAhead = record { row = r; variable = b; constant = entry row 0; entry = entry row c } in
-        let first = step (ratio_of ahead) _ rs e in
-        let rest = step (each ratio_of (filter bounds (rows_from c (suc r) bs rows))) _ rs first.2 in
-        let most = All-tail (λ ratio. IsAtMost v ratio.value) first.0 rest.0 (subst (All (λ ratio. IsAtMost v ratio.value)) (sym (same_ok rest.2)) all) in
-        others rest.0 rest.1 most k (omega (arith, below)) is_positive_there
+        let first = through (ratio_of ahead) _ rs e in
+        let rest = through (each ratio_of (filter bounds (rows_from c (suc r) bs rows))) _ rs first.rest in
+        let most = All-tail (λ ratio. IsAtMost v ratio.value) first.value rest.value (subst (All (λ ratio. IsAtMost v ratio.value)) (sym (same_ok _ _ rest.rest)) all) in
+        others rest.value rest.first most k (omega (arith, below)) is_positive_there
     by_test others false is e zero below is_positive_here = absurd (true≢false (sym is_positive_here ∙ is))
     by_test others false is e (suc k) below is_positive_there = others rs e all k (omega (arith, below)) is_positive_there
 

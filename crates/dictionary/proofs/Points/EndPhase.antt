@@ -8,15 +8,17 @@ use Rattle.std.proofs.lemmas.List.Quantifiers.{all_pairs_remove}
 use Rattle.std.proofs.lemmas.List.Sums.{fails_before_first, passes_at_first}
 use Rattle.frac128.specs.Fraction.{Fraction, zero_value}
 use Rattle.frac128.specs.Order.{IsAtMost}
-use Rattle.frac128.proofs.Field.{exact_product-zero_right}
+use Rattle.frac128.proofs.Field.{apart_of-sum, exact_product-zero_right, exact_sum-zero_right}
 use Rattle.dictionary.specs.Dictionary.{Dictionary, IsInShape, end_phase_one, entry}
-use Rattle.dictionary.specs.Solutions.{HasFeasibleConstants, HasNoArtificial, HasReducedEntries, IsLawful, IsReduced, Point, Solves, objective_at, sum_at}
+use Rattle.dictionary.specs.Solutions.{HasFeasibleConstants, HasNoArtificial, HasReducedEntries, IsLawful, Point, Solves, objective_at, sum_at}
+use Rattle.frac128.specs.Lowest.{IsInLowestTerms}
 use Rattle.dictionary.proofs.Points.Lawful.{IsWide}
 use Rattle.dictionary.proofs.Points.OwnPoint.{place_of}
 use Rattle.dictionary.proofs.Points.PhaseOne.{row_shape}
 use Rattle.dictionary.proofs.Points.PivotLaw.{solves_from_true, true_from_solves}
 use Rattle.dictionary.proofs.Points.ExactPivot.{less_one}
-use Rattle.dictionary.proofs.Points.Sums.{◌⊕◌, ◌⊗◌, IsReduced-sum, minus, sum-zero, sum_at-append}
+use Rattle.dictionary.proofs.Points.Sums.{sum_at-append}
+use Rattle.frac128.proofs.Sums.{minus, ◌⊕◌, ◌⊗◌}
 use Rattle.dictionary.proofs.Points.Turned.{rest, same_front, sum_at-place, told}
 
 -- ---- the artificial variable's place
@@ -41,7 +43,7 @@ removed_columns x p vs (k ∷ entries) within wide none =
     let same : length entries ≡ length vs = omega (arith, wide) in
     sum_at-append x (take p vs) (drop (suc p) vs) (take p entries) (drop (suc p) entries) (same_front p entries vs within same)
     ∙ sym (sum_at-place x p vs entries within same ∙ ap (λ s. rest x p vs entries ⊕ s) (ap (λ y. entry entries p ⊗ y) none ∙ exact_product-zero_right (entry entries p))
-    ∙ sum-zero (rest x p vs entries) (IsReduced-sum (sum_at x (take p vs) (take p entries)) (sum_at x (drop (suc p) vs) (drop (suc p) entries))))
+    ∙ exact_sum-zero_right (rest x p vs entries) (apart_of-sum (sum_at x (take p vs) (take p entries)) (sum_at x (drop (suc p) vs) (drop (suc p) entries))))
 
 same_constant : (n p : ℕ) (row : List Fraction) → IsWide n row → entry (remove row (suc p)) 0 ≡ entry row 0
 same_constant n p [] wide = refl
@@ -110,8 +112,8 @@ All-remove P row c all = All-append P (take c row) (drop (suc c) row) (All-take 
 reduced_without : (d : Dictionary) (p : ℕ) → HasReducedEntries d → HasReducedEntries (without_column p d)
 unfolding without_column
 reduced_without d p low = record {
-  rows = All-map (All IsReduced) (λ row. remove row (suc p)) d.rows (All-weaker (All IsReduced) (λ row. All IsReduced (remove row (suc p))) (λ row all. All-remove IsReduced row (suc p) all) d.rows low.rows);
-  objective = All-remove IsReduced d.objective (suc p) low.objective;
+  rows = All-map (All IsInLowestTerms) (λ row. remove row (suc p)) d.rows (All-weaker (All IsInLowestTerms) (λ row. All IsInLowestTerms (remove row (suc p))) (λ row all. All-remove IsInLowestTerms row (suc p) all) d.rows low.rows);
+  objective = All-remove IsInLowestTerms d.objective (suc p) low.objective;
   auxiliary = tt;
 }
 

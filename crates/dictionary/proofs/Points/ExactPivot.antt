@@ -1,66 +1,43 @@
 -- What the steps of a pivot make of rows, where each operation fits: the exact results.
-use Rattle.std.proofs.Common.{◌≡◌, ◌∙◌, refl, sym, ap, ap₂, subst, ℕ, suc, ◌-◌, ◌<◌, Bool, true, false, List, [], ◌∷◌, ◌++◌, length, length-take-le, map, take, drop, slice_index, slice_index_or, slice_set, Option, Some, None, option_map, Result, Ok, Err, arith}
+use Rattle.std.proofs.Common.{◌≡◌, ◌∙◌, sym, ap, ap₂, subst, ℕ, suc, ◌-◌, ◌<◌, List, [], ◌∷◌, ◌++◌, length, length-take-le, map, take, drop, slice_index, slice_index_or, slice_set, Option, Some, None, option_map, Result, Ok, arith}
 use Rattle.std.proofs.lemmas.List.{get_or_at, length-map}
-use Rattle.frac128.specs.Checked.{checked_product, checked_quotient, value_or_wide, ◌>>=◌}
-use Rattle.frac128.specs.Fits.{difference_fits, product_fits, quotient_fits, sum_fits}
-use Rattle.frac128.specs.Fraction.{Fraction, exact_difference, exact_quotient, inverse, negation, one_value}
-use Rattle.frac128.specs.declared.operations.Op.{Op}
-use Rattle.frac128.specs.declared.operations.Op.TheVariants.{Add, Div, Mul, Sub}
+use Rattle.frac128.specs.Checked.{checked_product, checked_quotient, less_product, plus_product}
+use Rattle.frac128.proofs.Chains.{fitting, less_product_is, plus_product_is, same_ok, through}
+use Rattle.frac128.specs.Fits.{product_fits, quotient_fits}
+use Rattle.frac128.specs.Fraction.{Fraction, exact_quotient, inverse, negation, one_value}
+use Rattle.frac128.specs.declared.operations.Op.TheVariants.{Div, Mul}
 use Rattle.frac128.specs.declared.operations.Wide.{Wide}
-use Rattle.dictionary.specs.Dictionary.{Dictionary, each, each_option, each_pair, eliminated_basic, eliminated_entries, eliminated_objective, entry, less_product, pivot, pivoted_rows, plus_product, row_at, solved_row}
-use Rattle.dictionary.proofs.Points.Sums.{◌⊕◌, ◌⊗◌, less_products, minus, minus_is}
+use Rattle.dictionary.specs.Dictionary.{Dictionary, each, each_option, each_pair, eliminated_basic, eliminated_entries, eliminated_objective, entry, pivot, pivoted_rows, row_at, solved_row}
+use Rattle.dictionary.proofs.Points.Sums.{less_products}
+use Rattle.frac128.proofs.Sums.{minus, minus_is, ◌⊕◌, ◌⊗◌}
 
 -- ---- chains that end well
-
--- the step that was made, and what followed
-pub step : {A B E : Type 0} (r : Result A E) (k : A → Result B E) (v : B) → ◌>>=◌ r k ≡ Ok v → (a : A) × (r ≡ Ok a) × (k a ≡ Ok v)
-step (Ok a) k v h = (a, refl, h)
-step (Err e) k v h = absurd cc
-
-pub same_ok : {A E : Type 0} {a b : A} → ◌≡◌ {A = Result A E} (Ok a) (Ok b) → a ≡ b
-same_ok e = cc
 
 pub same_some : {A : Type 0} {a b : A} → Some a ≡ Some b → a ≡ b
 same_some e = cc
 
--- a value that fits is the exact one
-pub fitting : (fits : Bool) (x : Fraction) (op : Op) (a b y : Fraction) → value_or_wide fits x op a b ≡ Ok y → y ≡ x
-fitting true x op a b y h = cc
-fitting false x op a b y h = absurd cc
-
 pub exact_each : {A B E : Type 0} (f : A → Result B E) (g : A → B) → ((x : A) (y : B) → f x ≡ Ok y → y ≡ g x) → (xs : List A) (ys : List B) → each f xs ≡ Ok ys → ys ≡ map g xs
 exact_each f g exact [] ys h = cc
 exact_each f g exact (x ∷ xs) ys h =
-    let first = step (f x) _ ys h in
-    let others = step (each f xs) _ ys first.2 in
-    let here = exact x first.0 first.1 in
-    let rest = exact_each f g exact xs others.0 others.1 in
-    let whole = others.2 in
+    let first = through (f x) _ ys h in
+    let others = through (each f xs) _ ys first.rest in
+    let here = exact x first.value first.first in
+    let rest = exact_each f g exact xs others.value others.first in
+    let whole = others.rest in
     cc
 
 exact_less : (f x y z : Fraction) → less_product f x y ≡ Ok z → z ≡ x ⊕ minus (f ⊗ y)
-exact_less f x y z h =
-    let made = step (checked_product f y) _ z h in
-    let product = fitting (product_fits f y) (f ⊗ y) Mul f y made.0 made.1 in
-    let value = fitting (difference_fits x made.0) (exact_difference x made.0) Sub x made.0 z made.2 in
-    value ∙ ap (λ p. x ⊕ p) (sym (minus_is made.0) ∙ ap minus product)
-
-exact_plus : (f x y z : Fraction) → plus_product f x y ≡ Ok z → z ≡ x ⊕ f ⊗ y
-exact_plus f x y z h =
-    let made = step (checked_product f y) _ z h in
-    let product = fitting (product_fits f y) (f ⊗ y) Mul f y made.0 made.1 in
-    let value = fitting (sum_fits x made.0) (x ⊕ made.0) Add x made.0 z made.2 in
-    value ∙ ap (λ p. x ⊕ p) product
+exact_less f x y z h = less_product_is f x y z h ∙ ap (λ p. x ⊕ p) (sym (minus_is (f ⊗ y)))
 
 pub exact_each_pair : (f : Fraction) (xs ys zs : List Fraction) → each_pair (less_product f) xs ys ≡ Ok zs → zs ≡ less_products f xs ys
 exact_each_pair f [] ys zs h = cc
 exact_each_pair f (x ∷ xs) [] zs h = cc
 exact_each_pair f (x ∷ xs) (y ∷ ys) zs h =
-    let first = step (less_product f x y) _ zs h in
-    let others = step (each_pair (less_product f) xs ys) _ zs first.2 in
-    let here = exact_less f x y first.0 first.1 in
-    let rest = exact_each_pair f xs ys others.0 others.1 in
-    let whole = others.2 in
+    let first = through (less_product f x y) _ zs h in
+    let others = through (each_pair (less_product f) xs ys) _ zs first.rest in
+    let here = exact_less f x y first.value first.first in
+    let rest = exact_each_pair f xs ys others.value others.first in
+    let whole = others.rest in
     cc
 
 -- ---- rows
@@ -80,26 +57,26 @@ unfolding solved_row
 exact_solved j k entries solved h =
     let p = entry entries j in
     let quotient = λ (a b : Fraction) (e : checked_quotient a p ≡ Ok b). fitting (quotient_fits a p) (exact_quotient a p) Div a p b e in
-    let left = step (each (λ a. checked_quotient a p) (k ∷ take j entries)) _ solved h in
-    let right = step (each (λ a. checked_quotient a p) (drop (suc j) entries)) _ solved left.2 in
-    let own = step (checked_quotient one_value p) _ solved right.2 in
-    let is_left = exact_each (λ a. checked_quotient a p) (λ a. a ⊗ inverse p) quotient (k ∷ take j entries) left.0 left.1 in
-    let is_right = exact_each (λ a. checked_quotient a p) (λ a. a ⊗ inverse p) quotient (drop (suc j) entries) right.0 right.1 in
-    let is_own = quotient one_value own.0 own.1 in
-    let whole : left.0 ++ own.0 ∷ right.0 ≡ solved = same_ok own.2 in
+    let left = through (each (λ a. checked_quotient a p) (k ∷ take j entries)) _ solved h in
+    let right = through (each (λ a. checked_quotient a p) (drop (suc j) entries)) _ solved left.rest in
+    let own = through (checked_quotient one_value p) _ solved right.rest in
+    let is_left = exact_each (λ a. checked_quotient a p) (λ a. a ⊗ inverse p) quotient (k ∷ take j entries) left.value left.first in
+    let is_right = exact_each (λ a. checked_quotient a p) (λ a. a ⊗ inverse p) quotient (drop (suc j) entries) right.value right.first in
+    let is_own = quotient one_value own.value own.first in
+    let whole : left.value ++ own.value ∷ right.value ≡ solved = same_ok _ _ own.rest in
     sym whole ∙ ap₂ (λ l r. l ++ r) is_left (ap₂ (λ o r. o ∷ r) is_own is_right)
 
 exact_entries : (j : ℕ) (f : Fraction) (solved entries out : List Fraction) → eliminated_entries j f solved entries ≡ Ok out → out ≡ other_entries j f solved entries
 unfolding eliminated_entries
 exact_entries j f solved entries out h =
-    let left = step (each_pair (less_product f) (take j entries) (take j solved)) _ out h in
-    let right = step (each_pair (less_product f) (drop (suc j) entries) (drop (suc j) solved)) _ out left.2 in
-    let own = step (checked_product f (entry solved j)) _ out right.2 in
-    let is_left = exact_each_pair f (take j entries) (take j solved) left.0 left.1 in
-    let is_right = exact_each_pair f (drop (suc j) entries) (drop (suc j) solved) right.0 right.1 in
-    let is_own = fitting (product_fits f (entry solved j)) (f ⊗ entry solved j) Mul f (entry solved j) own.0 own.1 in
-    let whole : left.0 ++ negation own.0 ∷ right.0 ≡ out = same_ok own.2 in
-    sym whole ∙ ap₂ (λ l r. l ++ r) is_left (ap₂ (λ o r. o ∷ r) (sym (minus_is own.0) ∙ ap minus is_own) is_right)
+    let left = through (each_pair (less_product f) (take j entries) (take j solved)) _ out h in
+    let right = through (each_pair (less_product f) (drop (suc j) entries) (drop (suc j) solved)) _ out left.rest in
+    let own = through (checked_product f (entry solved j)) _ out right.rest in
+    let is_left = exact_each_pair f (take j entries) (take j solved) left.value left.first in
+    let is_right = exact_each_pair f (drop (suc j) entries) (drop (suc j) solved) right.value right.first in
+    let is_own = fitting (product_fits f (entry solved j)) (f ⊗ entry solved j) Mul f (entry solved j) own.value own.first in
+    let whole : left.value ++ negation own.value ∷ right.value ≡ out = same_ok _ _ own.rest in
+    sym whole ∙ ap₂ (λ l r. l ++ r) is_left (ap₂ (λ o r. o ∷ r) (sym (minus_is own.value) ∙ ap minus is_own) is_right)
 
 -- ---- rows without a column
 
@@ -117,22 +94,22 @@ pub exact_basic : (j : ℕ) (solved row out : List Fraction) → eliminated_basi
 unfolding eliminated_basic
 exact_basic j solved row out h =
     let f = entry row (suc j) in
-    let constant = step (less_product f (entry row 0) (entry solved 0)) _ out h in
-    let entries = step (eliminated_entries (suc j - 1) f (drop 1 solved) (drop 1 row)) _ out constant.2 in
-    let is_constant = exact_less f (entry row 0) (entry solved 0) constant.0 constant.1 in
-    let is_entries = exact_entries j f (drop 1 solved) (drop 1 row) entries.0 (subst (λ place. eliminated_entries place f (drop 1 solved) (drop 1 row) ≡ Ok entries.0) (less_one j) entries.1) in
-    let whole = entries.2 in
+    let constant = through (less_product f (entry row 0) (entry solved 0)) _ out h in
+    let entries = through (eliminated_entries (suc j - 1) f (drop 1 solved) (drop 1 row)) _ out constant.rest in
+    let is_constant = exact_less f (entry row 0) (entry solved 0) constant.value constant.first in
+    let is_entries = exact_entries j f (drop 1 solved) (drop 1 row) entries.value (subst (λ place. eliminated_entries place f (drop 1 solved) (drop 1 row) ≡ Ok entries.value) (less_one j) entries.first) in
+    let whole = entries.rest in
     cc
 
 pub exact_objective : (j : ℕ) (solved row out : List Fraction) → eliminated_objective (suc j) solved row ≡ Ok out → out ≡ other_objective j solved row
 unfolding eliminated_objective
 exact_objective j solved row out h =
     let f = entry row (suc j) in
-    let constant = step (plus_product f (entry row 0) (entry solved 0)) _ out h in
-    let entries = step (eliminated_entries (suc j - 1) f (drop 1 solved) (drop 1 row)) _ out constant.2 in
-    let is_constant = exact_plus f (entry row 0) (entry solved 0) constant.0 constant.1 in
-    let is_entries = exact_entries j f (drop 1 solved) (drop 1 row) entries.0 (subst (λ place. eliminated_entries place f (drop 1 solved) (drop 1 row) ≡ Ok entries.0) (less_one j) entries.1) in
-    let whole = entries.2 in
+    let constant = through (plus_product f (entry row 0) (entry solved 0)) _ out h in
+    let entries = through (eliminated_entries (suc j - 1) f (drop 1 solved) (drop 1 row)) _ out constant.rest in
+    let is_constant = plus_product_is f (entry row 0) (entry solved 0) constant.value constant.first in
+    let is_entries = exact_entries j f (drop 1 solved) (drop 1 row) entries.value (subst (λ place. eliminated_entries place f (drop 1 solved) (drop 1 row) ≡ Ok entries.value) (less_one j) entries.first) in
+    let whole = entries.rest in
     cc
 
 -- ---- dictionaries
@@ -158,9 +135,9 @@ pub record Made (i j : ℕ) (d e : Dictionary) : Type 0 where
 exact_option : (f : List Fraction → Result (List Fraction) Wide) (g : List Fraction → List Fraction) → ((x y : List Fraction) → f x ≡ Ok y → y ≡ g x) → (o p : Option (List Fraction)) → each_option f o ≡ Ok p → p ≡ option_map g o
 exact_option f g exact None p h = cc
 exact_option f g exact (Some x) p h =
-    let made = step (f x) _ p h in
-    let here = exact x made.0 made.1 in
-    let whole = made.2 in
+    let made = through (f x) _ p h in
+    let here = exact x made.value made.first in
+    let whole = made.rest in
     cc
 
 -- rows that are made in place of others
@@ -172,16 +149,16 @@ pub record MadeRows (i j : ℕ) (rows made : List (List Fraction)) : Type 0 wher
 exact_rows : (i j : ℕ) (rows made : List (List Fraction)) → pivoted_rows (suc i) (suc j) rows ≡ Ok made → MadeRows i j rows made
 unfolding pivoted_rows
 exact_rows i j rows made h =
-    let solved = step (solved_row (suc j) (row_at rows (suc i))) _ made h in
-    let above = step (each (eliminated_basic (suc j) solved.0) (take (suc i - 1) rows)) _ made solved.2 in
-    let below = step (each (eliminated_basic (suc j) solved.0) (drop (suc i) rows)) _ made above.2 in
-    let is_above = exact_each (eliminated_basic (suc j) solved.0) (other_row j solved.0) (exact_basic j solved.0) (take (suc i - 1) rows) above.0 above.1 in
-    let is_below = exact_each (eliminated_basic (suc j) solved.0) (other_row j solved.0) (exact_basic j solved.0) (drop (suc i) rows) below.0 below.1 in
-    let whole = below.2 in
+    let solved = through (solved_row (suc j) (row_at rows (suc i))) _ made h in
+    let above = through (each (eliminated_basic (suc j) solved.value) (take (suc i - 1) rows)) _ made solved.rest in
+    let below = through (each (eliminated_basic (suc j) solved.value) (drop (suc i) rows)) _ made above.rest in
+    let is_above = exact_each (eliminated_basic (suc j) solved.value) (other_row j solved.value) (exact_basic j solved.value) (take (suc i - 1) rows) above.value above.first in
+    let is_below = exact_each (eliminated_basic (suc j) solved.value) (other_row j solved.value) (exact_basic j solved.value) (drop (suc i) rows) below.value below.first in
+    let whole = below.rest in
     record {
-      solved = solved.0;
-      is_solved = subst (λ place. solved_row (suc j) (slice_index_or rows place []) ≡ Ok solved.0) (less_one i) solved.1;
-      is_made = subst (λ place. made ≡ map (other_row j solved.0) (take place rows) ++ solved.0 ∷ map (other_row j solved.0) (drop (suc i) rows)) (less_one i) (cc whole);
+      solved = solved.value;
+      is_solved = subst (λ place. solved_row (suc j) (slice_index_or rows place []) ≡ Ok solved.value) (less_one i) solved.first;
+      is_made = subst (λ place. made ≡ map (other_row j solved.value) (take place rows) ++ solved.value ∷ map (other_row j solved.value) (drop (suc i) rows)) (less_one i) (cc whole);
     }
 
 same_parts : {basic basic' nonbasic nonbasic' : List ℕ} {rows rows' : List (List Fraction)} {objective objective' : List Fraction} {auxiliary auxiliary' : Option (List Fraction)}
@@ -192,16 +169,16 @@ same_parts p q r s t = λ i. record { basic = p i; nonbasic = q i; rows = r i; o
 pub exact_pivot : (i j : ℕ) (d e : Dictionary) → length d.rows ≡ length d.basic → i < length d.basic → pivot (suc i) (suc j) d ≡ Ok e → Made i j d e
 unfolding pivot
 exact_pivot i j d e same within h =
-    let rows = step (pivoted_rows (suc i) (suc j) d.rows) _ e h in
-    let made = exact_rows i j d.rows rows.0 rows.1 in
-    let objective = step (eliminated_objective (suc j) (row_at rows.0 (suc i)) d.objective) _ e rows.2 in
-    let auxiliary = step (each_option (eliminated_objective (suc j) (row_at rows.0 (suc i))) d.auxiliary) _ e objective.2 in
-    let here : row_at rows.0 (suc i) ≡ made.solved =
-    ap (λ place. slice_index_or rows.0 place []) (less_one i) ∙ ap (λ list. slice_index_or list i []) made.is_made
+    let rows = through (pivoted_rows (suc i) (suc j) d.rows) _ e h in
+    let made = exact_rows i j d.rows rows.value rows.first in
+    let objective = through (eliminated_objective (suc j) (row_at rows.value (suc i)) d.objective) _ e rows.rest in
+    let auxiliary = through (each_option (eliminated_objective (suc j) (row_at rows.value (suc i))) d.auxiliary) _ e objective.rest in
+    let here : row_at rows.value (suc i) ≡ made.solved =
+    ap (λ place. slice_index_or rows.value place []) (less_one i) ∙ ap (λ list. slice_index_or list i []) made.is_made
     ∙ get_or_at (map (other_row j made.solved) (take i d.rows)) made.solved (map (other_row j made.solved) (drop (suc i) d.rows)) [] i (length-map (take i d.rows) (other_row j made.solved) ∙ length-take-le i d.rows (omega arith)) in
-    let is_objective = exact_objective j (row_at rows.0 (suc i)) d.objective objective.0 objective.1 in
-    let is_auxiliary = exact_option (eliminated_objective (suc j) (row_at rows.0 (suc i))) (other_objective j (row_at rows.0 (suc i))) (exact_objective j (row_at rows.0 (suc i))) d.auxiliary auxiliary.0 auxiliary.1 in
-    let whole = same_ok auxiliary.2 in
+    let is_objective = exact_objective j (row_at rows.value (suc i)) d.objective objective.value objective.first in
+    let is_auxiliary = exact_option (eliminated_objective (suc j) (row_at rows.value (suc i))) (other_objective j (row_at rows.value (suc i))) (exact_objective j (row_at rows.value (suc i))) d.auxiliary auxiliary.value auxiliary.first in
+    let whole = same_ok _ _ auxiliary.rest in
     record {
       solved = made.solved;
       is_solved = made.is_solved;

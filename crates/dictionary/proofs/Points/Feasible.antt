@@ -5,17 +5,18 @@ use Rattle.std.proofs.lemmas.List.{get_or_at, length-map}
 use Rattle.std.proofs.lemmas.List.Elements.{All-from_get_or, All-get_or}
 use Rattle.frac128.specs.Fraction.{Fraction, exact_quotient, inverse, zero_value}
 use Rattle.frac128.specs.Order.{IsAtMost, IsBelow}
-use Rattle.frac128.proofs.Field.{exact_product-zero_left, exact_product-zero_right, exact_product_comm, exact_quotient-product}
+use Rattle.frac128.proofs.Field.{exact_product-zero_left, exact_product-zero_right, exact_product_comm, exact_quotient-product, exact_sum-zero_right}
 use Rattle.frac128.proofs.Ordered.{IsAtMost-difference, IsAtMost-from_below, IsAtMost-product, IsAtMost-self, IsAtMost-sums}
 use Rattle.dictionary.specs.Dictionary.{Dictionary, entry, row_at}
 use Rattle.dictionary.specs.Rule.{is_positive, maximized_row}
-use Rattle.dictionary.specs.Solutions.{HasFeasibleConstants, IsLawful, IsReduced, Pivots, PivotsByRule}
+use Rattle.dictionary.specs.Solutions.{HasFeasibleConstants, IsLawful, Pivots, PivotsByRule}
+use Rattle.frac128.specs.Lowest.{IsInLowestTerms}
 use Rattle.dictionary.proofs.Points.Chosen.{Enters, Leaves, above_from_positive, at_most_from_not_positive, entering-some, leaving-some, maximized-wide}
 use Rattle.dictionary.proofs.Points.FreeRise.{inverse_above, not_zero, row_along, row_along-at_least}
 use Rattle.dictionary.proofs.Points.Lawful.{Turns, replaced-other, replaced_length, turn}
 use Rattle.dictionary.proofs.Points.OwnPoint.{constant-wide, constants-reduced}
 use Rattle.dictionary.proofs.Points.ExactPivot.{less_one, other_objective, other_row, turned, turned_rows}
-use Rattle.dictionary.proofs.Points.Sums.{◌⊕◌, ◌⊗◌, minus, minus-none, minus_is, sum-zero}
+use Rattle.frac128.proofs.Sums.{minus, minus-none, minus_is, ◌⊕◌, ◌⊗◌}
 
 -- the constants after a pivot, where those of the solved row and of the others are known
 pub constants-turned : (P : Fraction → Type 0) (i j : ℕ) (solved : List Fraction) (rows : List (List Fraction)) → i < length rows → P (entry solved 0)
@@ -40,9 +41,9 @@ constants-turned P i j solved rows within own others =
         (length-map (drop (suc i) rows) (other_row j solved) ∙ length-drop (suc i) rows)
 
 -- x - a t is at least 0 where t is at most x / a
-above_ratio : (a t x : Fraction) → IsReduced x → IsBelow zero_value a → IsAtMost t (exact_quotient x a) → IsAtMost zero_value (x ⊕ minus (a ⊗ t))
+above_ratio : (a t x : Fraction) → IsInLowestTerms x → IsBelow zero_value a → IsAtMost t (exact_quotient x a) → IsAtMost zero_value (x ⊕ minus (a ⊗ t))
 above_ratio a t x low above most =
-    let scaled : IsAtMost (t ⊗ a) x = subst (IsAtMost (t ⊗ a)) (exact_quotient-product x a low.nothing_in_common (not_zero a above)) (IsAtMost-product t (exact_quotient x a) a (IsAtMost-from_below zero_value a above) most) in
+    let scaled : IsAtMost (t ⊗ a) x = subst (IsAtMost (t ⊗ a)) (exact_quotient-product x a low (not_zero a above)) (IsAtMost-product t (exact_quotient x a) a (IsAtMost-from_below zero_value a above) most) in
     subst (λ s. IsAtMost zero_value (x ⊕ s)) (sym (minus_is (a ⊗ t)))
     (IsAtMost-difference (a ⊗ t) x (subst (λ s. IsAtMost s x) (exact_product_comm t a) scaled))
 
@@ -98,9 +99,9 @@ feasible_by_turn i j d e lawful constants h leaves =
     (λ k below other.
     let row = slice_index_or d.rows k [] in
     by_test v row v_high (All-get_or (λ r. IsAtMost zero_value (entry r 0)) d.rows k [] below constants)
-    (All-get_or (λ r. IsReduced (entry r 0)) d.rows k [] below (constants-reduced d lawful)) (is_positive (entry row (suc j))) refl (least k below)))
+    (All-get_or (λ r. IsInLowestTerms (entry r 0)) d.rows k [] below (constants-reduced d lawful)) (is_positive (entry row (suc j))) refl (least k below)))
   where
-    by_test : (t : Fraction) (r : List Fraction) → IsAtMost zero_value t → IsAtMost zero_value (entry r 0) → IsReduced (entry r 0) → (b : Bool) → is_positive (entry r (suc j)) ≡ b
+    by_test : (t : Fraction) (r : List Fraction) → IsAtMost zero_value t → IsAtMost zero_value (entry r 0) → IsInLowestTerms (entry r 0) → (b : Bool) → is_positive (entry r (suc j)) ≡ b
         → (is_positive (entry r (suc j)) ≡ true → IsAtMost t (exact_quotient (entry r 0) (entry r (suc j)))) → IsAtMost zero_value (row_along j t r)
     by_test t r high constant reduced true e least = above_ratio (entry r (suc j)) t (entry r 0) reduced (above_from_positive (entry r (suc j)) e) (least e)
     by_test t r high constant reduced false e least = row_along-at_least j t r high constant (at_most_from_not_positive (entry r (suc j)) e)
@@ -118,10 +119,10 @@ maximized-turned i j solved d = of_option d.auxiliary
     of_option None = refl
     of_option (Some w) = refl
 
-maximized-reduced : (d : Dictionary) → IsLawful d → IsReduced (entry (maximized_row d) 0)
+maximized-reduced : (d : Dictionary) → IsLawful d → IsInLowestTerms (entry (maximized_row d) 0)
 maximized-reduced d lawful = constant-wide (length d.nonbasic) (maximized_row d) (maximized-wide d lawful.shape) (of_option d.auxiliary lawful.reduced.auxiliary)
   where
-    of_option : (o : Option (List Fraction)) → IfSome o (All IsReduced) → All IsReduced (unwrap_or o d.objective)
+    of_option : (o : Option (List Fraction)) → IfSome o (All IsInLowestTerms) → All IsInLowestTerms (unwrap_or o d.objective)
     of_option None h = lawful.reduced.objective
     of_option (Some w) h = h
 
@@ -133,7 +134,7 @@ rises_by_turn i j d e lawful constants h leaves enters =
     let v_high = solved_at_least i j d e lawful constants h leaves in
     let more : IsAtMost zero_value (slope ⊗ v) = subst (λ s. IsAtMost s (slope ⊗ v)) (exact_product-zero_left v) (IsAtMost-product zero_value slope v v_high (IsAtMost-from_below zero_value slope enters.rise)) in
     subst (λ s. IsAtMost z (entry s 0)) (sym (ap maximized_row h.is_made ∙ maximized-turned i j h.solved d))
-    (subst (λ s. IsAtMost s (z ⊕ slope ⊗ v)) (sum-zero z (maximized-reduced d lawful)) (IsAtMost-sums z z zero_value (slope ⊗ v) (IsAtMost-self z) more))
+    (subst (λ s. IsAtMost s (z ⊕ slope ⊗ v)) (exact_sum-zero_right z (maximized-reduced d lawful)) (IsAtMost-sums z z zero_value (slope ⊗ v) (IsAtMost-self z) more))
 
 pub rises_by_rule : (r c : ℕ) (d e : Dictionary) → IsLawful d → HasFeasibleConstants d → PivotsByRule r c d e → IsAtMost (entry (maximized_row d) 0) (entry (maximized_row e) 0)
 rises_by_rule zero c d e lawful constants h = absurd (let pivots = by_rule zero c d e lawful h in let above = pivots.row_above in omega (arith, above))
@@ -157,8 +158,8 @@ feasible_by_zero (suc i) (suc j) d e lawful constants pivots none =
     (constants-turned (IsAtMost zero_value) i j h.solved d.rows (omega (arith, same, row_within)) (subst (IsAtMost zero_value) (sym v) (IsAtMost-self zero_value))
     (λ k below other.
     let k_row = slice_index_or d.rows k [] in
-    subst (IsAtMost zero_value) (sym (stays (entry k_row 0) (entry k_row (suc j)) (entry h.solved 0) (All-get_or (λ r. IsReduced (entry r 0)) d.rows k [] below (constants-reduced d lawful)) v))
+    subst (IsAtMost zero_value) (sym (stays (entry k_row 0) (entry k_row (suc j)) (entry h.solved 0) (All-get_or (λ r. IsInLowestTerms (entry r 0)) d.rows k [] below (constants-reduced d lawful)) v))
     (All-get_or (λ r. IsAtMost zero_value (entry r 0)) d.rows k [] below constants)))
   where
-    stays : (x a t : Fraction) → IsReduced x → t ≡ zero_value → x ⊕ minus (a ⊗ t) ≡ x
+    stays : (x a t : Fraction) → IsInLowestTerms x → t ≡ zero_value → x ⊕ minus (a ⊗ t) ≡ x
     stays x a t low e = ap (λ s. x ⊕ minus (a ⊗ s)) e ∙ ap (λ s. x ⊕ minus s) (exact_product-zero_right a) ∙ minus-none x low

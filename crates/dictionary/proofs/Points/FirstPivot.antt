@@ -14,14 +14,15 @@ use Rattle.frac128.proofs.Ordered.{IsAtMost-difference, IsAtMost-negation, IsAtM
 use Rattle.dictionary.specs.declared.standard.Std.{Std}
 use Rattle.dictionary.specs.Dictionary.{Dictionary, IsUniform, artificial_column, entry, is_negative, needs_phase_one, opening, pivot, with_artificial, without_artificial}
 use Rattle.dictionary.specs.Rule.{RowAhead, least_row, rows_from, side_before}
-use Rattle.dictionary.specs.Solutions.{HasFeasibleConstants, HasNoArtificial, HasReducedNumbers, IsLawful, IsReduced, Pivots}
+use Rattle.dictionary.specs.Solutions.{HasFeasibleConstants, HasNoArtificial, HasReducedNumbers, IsLawful, Pivots}
+use Rattle.frac128.specs.Lowest.{IsInLowestTerms}
 use Rattle.dictionary.proofs.Points.Chosen.{GoesBy, KnownRow, at_least_from_order, at_most_from_order, chosen, rows-known}
 use Rattle.dictionary.proofs.Points.Feasible.{constants-turned}
 use Rattle.dictionary.proofs.Points.Lawful.{All-right, IsWide, Turns, turn}
 use Rattle.dictionary.proofs.Points.OwnPoint.{constants-reduced}
 use Rattle.dictionary.proofs.Points.Opening.{IsLawful-with, IsLawful-without, few_columns, without-has_none}
 use Rattle.dictionary.proofs.Points.PhaseOne.{same_constant}
-use Rattle.dictionary.proofs.Points.Sums.{◌⊕◌, ◌⊗◌, minus, minus_is}
+use Rattle.frac128.proofs.Sums.{minus, minus_is, ◌⊕◌, ◌⊗◌}
 
 -- ---- the row with the least constant
 
@@ -47,10 +48,10 @@ each_constant v c r (b ∷ bs) (row ∷ rows) same all (suc k) within =
     each_constant v c (suc r) bs rows (omega (arith, same)) (All-tail (λ row. IsAtMost v row.constant) record { row = r; variable = b; constant = entry row 0; entry = entry row c } (rows_from c (suc r) bs rows) all) k (omega (arith, within))
 
 pub record IsLeast (r : ℕ) (d : Dictionary) : Type 0 where
-  place : ℕ
-  is_row : r ≡ suc place
-  within : place < length d.basic
-  least : (k : ℕ) → k < length d.rows → IsAtMost (entry (slice_index_or d.rows place []) 0) (entry (slice_index_or d.rows k []) 0)
+  pub place : ℕ
+  pub is_row : r ≡ suc place
+  pub within : place < length d.basic
+  pub least : (k : ℕ) → k < length d.rows → IsAtMost (entry (slice_index_or d.rows place []) 0) (entry (slice_index_or d.rows k []) 0)
 
 least-known : (r : ℕ) (d : Dictionary) → length d.rows ≡ length d.basic → least_row d ≡ Some r → IsLeast r d
 unfolding least_row
@@ -98,12 +99,12 @@ unfolding inverse
 inverse-minus_one = refl
 
 -- over -1, and times -1
-over_minus_one : (x : Fraction) → IsReduced x → exact_quotient x (negation one_value) ≡ negation x
-over_minus_one x low = ap (λ s. x ⊗ s) inverse-minus_one ∙ exact_product-negation_right x one_value ∙ ap negation (exact_product-one_right x low.nothing_in_common)
+over_minus_one : (x : Fraction) → IsInLowestTerms x → exact_quotient x (negation one_value) ≡ negation x
+over_minus_one x low = ap (λ s. x ⊗ s) inverse-minus_one ∙ exact_product-negation_right x one_value ∙ ap negation (exact_product-one_right x low)
 
-less_least : (x y : Fraction) → IsReduced y → x ⊕ minus (negation one_value ⊗ negation y) ≡ exact_difference x y
+less_least : (x y : Fraction) → IsInLowestTerms y → x ⊕ minus (negation one_value ⊗ negation y) ≡ exact_difference x y
 less_least x y low =
-    ap (λ s. x ⊕ minus s) (exact_product-negation_left one_value (negation y) ∙ ap negation (exact_product-negation_right one_value y) ∙ negation-negation (one_value ⊗ y) ∙ exact_product-one_left y low.nothing_in_common)
+    ap (λ s. x ⊕ minus s) (exact_product-negation_left one_value (negation y) ∙ ap negation (exact_product-negation_right one_value y) ∙ negation-negation (one_value ⊗ y) ∙ exact_product-one_left y low)
     ∙ ap (λ s. x ⊕ s) (minus_is y)
 
 same_rows : (d : Dictionary) → length (with_artificial d).rows ≡ length d.rows
@@ -125,7 +126,7 @@ feasible_first i d e lawful h within low least =
     let n = length d.nonbasic in
     let own = entry (slice_index_or d.rows i []) 0 in
     let row = row_with d i lawful within in
-    let reduced = All-get_or (λ r. IsReduced (entry r 0)) d.rows i [] within (constants-reduced d lawful) in
+    let reduced = All-get_or (λ r. IsInLowestTerms (entry r 0)) d.rows i [] within (constants-reduced d lawful) in
     let v : entry h.solved 0 ≡ negation own = h.known.constant ∙ ap₂ exact_quotient row.constant row.last ∙ over_minus_one own reduced in
     let long = same_rows d in
     subst HasFeasibleConstants (sym h.is_made)

@@ -6,10 +6,13 @@ use Rattle.std.proofs.lemmas.List.{get_or-map, get_or_append_left, get_or_defaul
 use Rattle.std.proofs.lemmas.List.Elements.{All-append, All-cons, All-drop, All-get_or, All-head, All-map, All-nil, All-tail, All-take, All-weaker}
 use Rattle.frac128.specs.Fraction.{Fraction, exact_quotient, inverse, one_value, zero_value}
 use Rattle.dictionary.specs.Dictionary.{Dictionary, IsInShape, entry, solved_row}
-use Rattle.dictionary.specs.Solutions.{HasReducedEntries, IsLawful, IsReduced, Pivots, Point}
+use Rattle.dictionary.specs.Solutions.{HasReducedEntries, IsLawful, Pivots, Point}
+use Rattle.frac128.specs.Lowest.{IsInLowestTerms}
 use Rattle.dictionary.proofs.Points.ExactPivot.{exact_pivot, exact_solved, less_one, other_entries, other_objective, other_row, solved_entries, turned}
 use Rattle.dictionary.proofs.Points.Turned.{told, told-solved}
-use Rattle.dictionary.proofs.Points.Sums.{◌⊕◌, ◌⊗◌, IsReduced-product, IsReduced-sum, length-less_products, less_products, minus, minus-product}
+use Rattle.dictionary.proofs.Points.Sums.{length-less_products, less_products}
+use Rattle.frac128.proofs.Sums.{minus, minus-product, ◌⊕◌, ◌⊗◌}
+use Rattle.frac128.proofs.Field.{apart_of-product, apart_of-sum}
 
 -- ---- parts of lists
 
@@ -79,29 +82,29 @@ length-solved j n q entries within same =
 
 -- ---- lowest terms
 
-IsReduced-minus_product : (f b : Fraction) → IsReduced (minus (f ⊗ b))
-IsReduced-minus_product f b = subst IsReduced (minus-product f b) (IsReduced-product (minus f) b)
+apart_of-minus_product : (f b : Fraction) → IsInLowestTerms (minus (f ⊗ b))
+apart_of-minus_product f b = subst IsInLowestTerms (minus-product f b) (apart_of-product (minus f) b)
 
-All-less_products : (f : Fraction) (coefs others : List Fraction) → All IsReduced (less_products f coefs others)
-All-less_products f [] others = All-nil IsReduced
-All-less_products f (a ∷ coefs) [] = All-nil IsReduced
-All-less_products f (a ∷ coefs) (b ∷ others) = All-cons IsReduced (a ⊕ minus (f ⊗ b)) (less_products f coefs others) (IsReduced-sum a (minus (f ⊗ b))) (All-less_products f coefs others)
+All-less_products : (f : Fraction) (coefs others : List Fraction) → All IsInLowestTerms (less_products f coefs others)
+All-less_products f [] others = All-nil IsInLowestTerms
+All-less_products f (a ∷ coefs) [] = All-nil IsInLowestTerms
+All-less_products f (a ∷ coefs) (b ∷ others) = All-cons IsInLowestTerms (a ⊕ minus (f ⊗ b)) (less_products f coefs others) (apart_of-sum a (minus (f ⊗ b))) (All-less_products f coefs others)
 
-All-replaced : (front behind : List Fraction) (a : Fraction) → All IsReduced front → IsReduced a → All IsReduced behind → All IsReduced (front ++ a ∷ behind)
-All-replaced front behind a p q r = All-append IsReduced front (a ∷ behind) p (All-cons IsReduced a behind q r)
+All-replaced : (front behind : List Fraction) (a : Fraction) → All IsInLowestTerms front → IsInLowestTerms a → All IsInLowestTerms behind → All IsInLowestTerms (front ++ a ∷ behind)
+All-replaced front behind a p q r = All-append IsInLowestTerms front (a ∷ behind) p (All-cons IsInLowestTerms a behind q r)
 
-All-other : (j : ℕ) (f : Fraction) (solved entries : List Fraction) → All IsReduced (other_entries j f solved entries)
+All-other : (j : ℕ) (f : Fraction) (solved entries : List Fraction) → All IsInLowestTerms (other_entries j f solved entries)
 All-other j f solved entries =
     All-replaced (less_products f (take j entries) (take j solved)) (less_products f (drop (suc j) entries) (drop (suc j) solved)) (minus (f ⊗ entry solved j))
-    (All-less_products f (take j entries) (take j solved)) (IsReduced-minus_product f (entry solved j)) (All-less_products f (drop (suc j) entries) (drop (suc j) solved))
+    (All-less_products f (take j entries) (take j solved)) (apart_of-minus_product f (entry solved j)) (All-less_products f (drop (suc j) entries) (drop (suc j) solved))
 
-All-scaled : (q : Fraction) (coefs : List Fraction) → All IsReduced (map (λ a. a ⊗ q) coefs)
-All-scaled q [] = All-nil IsReduced
-All-scaled q (a ∷ coefs) = All-cons IsReduced (a ⊗ q) (map (λ b. b ⊗ q) coefs) (IsReduced-product a q) (All-scaled q coefs)
+All-scaled : (q : Fraction) (coefs : List Fraction) → All IsInLowestTerms (map (λ a. a ⊗ q) coefs)
+All-scaled q [] = All-nil IsInLowestTerms
+All-scaled q (a ∷ coefs) = All-cons IsInLowestTerms (a ⊗ q) (map (λ b. b ⊗ q) coefs) (apart_of-product a q) (All-scaled q coefs)
 
-All-solved : (j : ℕ) (q : Fraction) (entries : List Fraction) → All IsReduced (solved_entries j q entries)
+All-solved : (j : ℕ) (q : Fraction) (entries : List Fraction) → All IsInLowestTerms (solved_entries j q entries)
 All-solved j q entries =
-    All-replaced (map (λ a. a ⊗ q) (take j entries)) (map (λ a. a ⊗ q) (drop (suc j) entries)) (one_value ⊗ q) (All-scaled q (take j entries)) (IsReduced-product one_value q) (All-scaled q (drop (suc j) entries))
+    All-replaced (map (λ a. a ⊗ q) (take j entries)) (map (λ a. a ⊗ q) (drop (suc j) entries)) (one_value ⊗ q) (All-scaled q (take j entries)) (apart_of-product one_value q) (All-scaled q (drop (suc j) entries))
 
 -- ---- distinct variables
 
@@ -166,20 +169,20 @@ distinct_exchanged xs a b a_in b_in distinct p q d below within same =
 -- what is known of the solved row
 pub record SolvedRow (j n : ℕ) (row solved : List Fraction) : Type 0 where
   pub wide : IsWide n solved
-  pub reduced : All IsReduced solved
+  pub reduced : All IsInLowestTerms solved
   pub constant : entry solved 0 ≡ exact_quotient (entry row 0) (entry row (suc j))
-  pub truth : (x : Point) (u : ℕ) (vs : List ℕ) → ((v : ℕ) → IsReduced (x v)) → length vs ≡ n → (x u ≡ told x vs row) ↔ (x (slice_index vs j) ≡ told x (slice_set vs j u) solved)
+  pub truth : (x : Point) (u : ℕ) (vs : List ℕ) → ((v : ℕ) → IsInLowestTerms (x v)) → length vs ≡ n → (x u ≡ told x vs row) ↔ (x (slice_index vs j) ≡ told x (slice_set vs j u) solved)
 
-pub solved_known : (j n : ℕ) (row solved : List Fraction) → j < n → IsWide n row → All IsReduced row → (entry row (suc j)).num ≢ pos 0 → solved_row (suc j) row ≡ Ok solved → SolvedRow j n row solved
+pub solved_known : (j n : ℕ) (row solved : List Fraction) → j < n → IsWide n row → All IsInLowestTerms row → (entry row (suc j)).num ≢ pos 0 → solved_row (suc j) row ≡ Ok solved → SolvedRow j n row solved
 solved_known j n [] solved within wide low some is_solved = absurd (omega (arith, wide))
 solved_known j n (k ∷ entries) solved within wide low some is_solved =
     let same : length entries ≡ n = omega (arith, wide) in
     let q = inverse (entry entries j) in
     subst (SolvedRow j n (k ∷ entries)) (sym (exact_solved j k entries solved is_solved)) record {
       wide = ap suc (length-solved j n q entries within same);
-      reduced = All-cons IsReduced (k ⊗ q) (solved_entries j q entries) (IsReduced-product k q) (All-solved j q entries);
+      reduced = All-cons IsInLowestTerms (k ⊗ q) (solved_entries j q entries) (apart_of-product k q) (All-solved j q entries);
       constant = refl;
-      truth = λ x u vs low_x long. told-solved x j u vs k entries low_x (All-head IsReduced k entries low) (All-get_or IsReduced entries j zero_value (omega arith) (All-tail IsReduced k entries low)) some (omega (arith, within, long)) (same ∙ sym long);
+      truth = λ x u vs low_x long. told-solved x j u vs k entries low_x (All-head IsInLowestTerms k entries low) (All-get_or IsInLowestTerms entries j zero_value (omega arith) (All-tail IsInLowestTerms k entries low)) some (omega (arith, within, long)) (same ∙ sym long);
     }
 
 -- a pivot on places from 0 on, with the row that is solved
@@ -204,7 +207,7 @@ turn i j d e lawful h =
       solved = made.solved;
       known = solved_known j (length d.nonbasic) row made.solved column_within
           (All-get_or (IsWide (length d.nonbasic)) d.rows i [] in_rows lawful.shape.row_entries)
-          (All-get_or (All IsReduced) d.rows i [] in_rows lawful.reduced.rows)
+          (All-get_or (All IsInLowestTerms) d.rows i [] in_rows lawful.reduced.rows)
           (subst (λ place. (entry (slice_index_or d.rows place []) (suc j)).num ≢ pos 0) (less_one i) h.not_zero)
           made.is_solved;
       is_made = made.is_made;
@@ -251,10 +254,10 @@ shape-turned i j d e shape h =
 reduced-turned : (i j : ℕ) (d e : Dictionary) → HasReducedEntries d → (h : Turns i j d e) → HasReducedEntries (turned i j h.solved d)
 reduced-turned i j d e low h =
     let solved = h.solved in
-    let made = λ (row : List Fraction) (k : Fraction) (k_low : IsReduced k). All-cons IsReduced k (other_entries j (entry row (suc j)) (drop 1 solved) (drop 1 row)) k_low (All-other j (entry row (suc j)) (drop 1 solved) (drop 1 row)) in
-    let entries = lines_turned (All IsReduced) (All IsReduced) i j solved d
-    (λ row all. made row (entry row 0 ⊕ minus (entry row (suc j) ⊗ entry solved 0)) (IsReduced-sum _ _))
-    (λ row all. made row (entry row 0 ⊕ entry row (suc j) ⊗ entry solved 0) (IsReduced-sum _ _))
+    let made = λ (row : List Fraction) (k : Fraction) (k_low : IsInLowestTerms k). All-cons IsInLowestTerms k (other_entries j (entry row (suc j)) (drop 1 solved) (drop 1 row)) k_low (All-other j (entry row (suc j)) (drop 1 solved) (drop 1 row)) in
+    let entries = lines_turned (All IsInLowestTerms) (All IsInLowestTerms) i j solved d
+    (λ row all. made row (entry row 0 ⊕ minus (entry row (suc j) ⊗ entry solved 0)) (apart_of-sum _ _))
+    (λ row all. made row (entry row 0 ⊕ entry row (suc j) ⊗ entry solved 0) (apart_of-sum _ _))
     h.known.reduced record { rows = low.rows; objective = low.objective; auxiliary = low.auxiliary } in
     record { rows = entries.rows; objective = entries.objective; auxiliary = entries.auxiliary }
 

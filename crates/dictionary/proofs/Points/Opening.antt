@@ -14,18 +14,16 @@ use Rattle.frac128.proofs.Kept.{IsKept-negation, IsKept-one}
 use Rattle.dictionary.specs.declared.standard.Std.{Std}
 use Rattle.dictionary.specs.declared.standard.StdRow.{StdRow}
 use Rattle.dictionary.specs.Dictionary.{Dictionary, IsInShape, IsUniform, entry, is_negative, needs_phase_one, numbers_from, opening, with_artificial, without_artificial}
-use Rattle.dictionary.specs.Solutions.{HasFeasibleConstants, HasNoArtificial, HasReducedNumbers, IsLawful, IsPhaseOne, IsReduced}
+use Rattle.dictionary.specs.Solutions.{HasFeasibleConstants, HasNoArtificial, HasReducedNumbers, IsLawful, IsPhaseOne}
+use Rattle.frac128.specs.Lowest.{IsInLowestTerms}
 use Rattle.dictionary.proofs.Points.Lawful.{AllLines, IsWide}
 use Rattle.dictionary.proofs.Points.PhaseOne.{artificial-phase_one}
-use Rattle.dictionary.proofs.Points.Sums.{IsReduced-zero}
+use Rattle.frac128.proofs.Field.{apart_of-zero}
+use Rattle.dictionary.proofs.Opened.{length-numbers_from}
 
 -- ---- numbers in a row
 
-length-numbers_from : (first count : ℕ) → length (numbers_from first count) ≡ count
-length-numbers_from first zero = refl
-length-numbers_from first (suc count) = ap suc (length-numbers_from (suc first) count)
-
-get_or-numbers_from : (first count i d : ℕ) → i < count → get_or (numbers_from first count) i d ≡ first + i
+pub get_or-numbers_from : (first count i d : ℕ) → i < count → get_or (numbers_from first count) i d ≡ first + i
 get_or-numbers_from first zero i d within = absurd (omega (arith, within))
 get_or-numbers_from first (suc count) zero d within = omega arith
 get_or-numbers_from first (suc count) (suc i) d within = get_or-numbers_from (suc first) count i d (omega (arith, within)) ∙ omega arith
@@ -94,9 +92,9 @@ IsLawful-without s uniform low =
     let m = length s.rows in
     let columns = length-numbers_from 1 n in
     let rows = length-numbers_from (suc n) m in
-    let entries = made_lines (All IsReduced) s
-    (λ k d within. All-cons IsReduced (slice_index_or s.rows k d).rhs (slice_index_or s.rows k d).coefs (low.sides k d within) (low.coefs k d within))
-    (All-cons IsReduced s.constant s.obj low.constant low.obj) in
+    let entries = made_lines (All IsInLowestTerms) s
+    (λ k d within. All-cons IsInLowestTerms (slice_index_or s.rows k d).rhs (slice_index_or s.rows k d).coefs (low.sides k d within) (low.coefs k d within))
+    (All-cons IsInLowestTerms s.constant s.obj low.constant low.obj) in
     record {
       shape = shape-without s uniform;
       reduced = record { rows = entries.rows; objective = entries.objective; auxiliary = entries.auxiliary };
@@ -108,18 +106,18 @@ IsLawful-without s uniform low =
 
 -- ---- with the artificial variable
 
-artificial_lines : (P Q : List Fraction → Type 0) (d : Dictionary) → ((row : List Fraction) (a : Fraction) → IsReduced a → P row → Q (row ++ a ∷ [])) → P (replicate (length d.objective) zero_value) → AllLines P d → AllLines Q (with_artificial d)
+artificial_lines : (P Q : List Fraction → Type 0) (d : Dictionary) → ((row : List Fraction) (a : Fraction) → IsInLowestTerms a → P row → Q (row ++ a ∷ [])) → P (replicate (length d.objective) zero_value) → AllLines P d → AllLines Q (with_artificial d)
 unfolding with_artificial
 artificial_lines P Q d step zeros all =
     let minus_one = negation one_value in
     record {
       rows = All-map Q (λ row. row ++ minus_one ∷ []) d.rows (All-weaker P (λ row. Q (row ++ minus_one ∷ [])) (λ row h. step row minus_one reduced h) d.rows all.rows);
-      objective = step d.objective zero_value IsReduced-zero all.objective;
+      objective = step d.objective zero_value apart_of-zero all.objective;
       auxiliary = step (replicate (length d.objective) zero_value) minus_one reduced zeros;
     }
   where
-    reduced : IsReduced (negation one_value)
-    reduced = let kept = IsKept-negation one_value IsKept-one in record { nothing_in_common = kept.nothing_in_common }
+    reduced : IsInLowestTerms (negation one_value)
+    reduced = let kept = IsKept-negation one_value IsKept-one in kept.nothing_in_common
 
 length_more : {A : Type 0} (xs : List A) (x : A) → length (xs ++ x ∷ []) ≡ suc (length xs)
 length_more xs x = length-append xs (x ∷ []) ∙ omega arith
@@ -146,9 +144,9 @@ pub IsLawful-with : (d : Dictionary) → IsLawful d → HasNoArtificial d → le
 unfolding with_artificial
 IsLawful-with d lawful none limit =
     let low = lawful.reduced in
-    let entries = artificial_lines (All IsReduced) (All IsReduced) d
-    (λ row a low_a all. All-append IsReduced row (a ∷ []) all (All-cons IsReduced a [] low_a (All-nil IsReduced)))
-    (All-replicate IsReduced (length d.objective) zero_value IsReduced-zero)
+    let entries = artificial_lines (All IsInLowestTerms) (All IsInLowestTerms) d
+    (λ row a low_a all. All-append IsInLowestTerms row (a ∷ []) all (All-cons IsInLowestTerms a [] low_a (All-nil IsInLowestTerms)))
+    (All-replicate IsInLowestTerms (length d.objective) zero_value apart_of-zero)
     record { rows = low.rows; objective = low.objective; auxiliary = low.auxiliary } in
     record {
       shape = shape-with d lawful.shape limit;

@@ -7,13 +7,14 @@ use Rattle.std.proofs.lemmas.List.Elements.{All-get_or, All-head, All-tail}
 use Rattle.std.proofs.lemmas.List.Sums.{position_or_len_is}
 use Rattle.frac128.specs.Fraction.{Fraction, exact_sum, zero_value}
 use Rattle.frac128.specs.Order.{IsAtMost}
-use Rattle.frac128.proofs.Field.{exact_product-zero_left, exact_product-zero_right}
+use Rattle.frac128.proofs.Field.{apart_of-product, apart_of-zero, exact_product-zero_left, exact_product-zero_right, exact_sum-zero_left, exact_sum-zero_right}
 use Rattle.frac128.proofs.Ordered.{IsAtMost-product, IsAtMost-self, IsAtMost-sums}
 use Rattle.dictionary.specs.Dictionary.{Dictionary, entry}
-use Rattle.dictionary.specs.Solutions.{HasFeasibleConstants, HasNoRise, IsFeasible, IsLawful, IsReduced, Point, Solves, objective_at, own_point, sum_at}
+use Rattle.dictionary.specs.Solutions.{HasFeasibleConstants, HasNoRise, IsFeasible, IsLawful, Point, Solves, objective_at, own_point, sum_at}
+use Rattle.frac128.specs.Lowest.{IsInLowestTerms}
 use Rattle.dictionary.proofs.Points.Lawful.{IsWide}
 use Rattle.dictionary.proofs.Points.PivotLaw.{solves_from_true}
-use Rattle.dictionary.proofs.Points.Sums.{◌⊕◌, ◌⊗◌, IsReduced-product, IsReduced-zero, minus-none, minus, sum-zero, zero-sum}
+use Rattle.frac128.proofs.Sums.{minus, minus-none, ◌⊕◌, ◌⊗◌}
 use Rattle.dictionary.proofs.Points.Turned.{sum_at-place, total}
 
 -- ---- where a variable stands
@@ -54,15 +55,15 @@ sum_at-none x [] coefs none = refl
 sum_at-none x (v ∷ vs) [] none = refl
 sum_at-none x (v ∷ vs) (a ∷ coefs) none =
     ap₂ exact_sum (ap (λ y. a ⊗ y) (none 0 (omega arith)) ∙ exact_product-zero_right a) (sum_at-none x vs coefs (λ k within. none (suc k) (omega (arith, within))))
-    ∙ sum-zero zero_value IsReduced-zero
+    ∙ exact_sum-zero_right zero_value apart_of-zero
 
 pub sum_at-one : (x : Point) (j : ℕ) (vs : List ℕ) (coefs : List Fraction) → j < length vs → length coefs ≡ length vs → ((k : ℕ) → k < length vs → (k ≡ j → ⊥) → x (slice_index vs k) ≡ zero_value)
     → sum_at x vs coefs ≡ entry coefs j ⊗ x (slice_index vs j)
 sum_at-one x j vs coefs within same none =
     let a = entry coefs j ⊗ x (slice_index vs j) in
     sum_at-place x j vs coefs within same
-    ∙ ap (λ s. s ⊕ a) (ap₂ exact_sum (sum_at-none x (take j vs) (take j coefs) front) (sum_at-none x (drop (suc j) vs) (drop (suc j) coefs) behind) ∙ sum-zero zero_value IsReduced-zero)
-    ∙ zero-sum a (IsReduced-product (entry coefs j) (x (slice_index vs j)))
+    ∙ ap (λ s. s ⊕ a) (ap₂ exact_sum (sum_at-none x (take j vs) (take j coefs) front) (sum_at-none x (drop (suc j) vs) (drop (suc j) coefs) behind) ∙ exact_sum-zero_right zero_value apart_of-zero)
+    ∙ exact_sum-zero_left a (apart_of-product (entry coefs j) (x (slice_index vs j)))
   where
     front : (k : ℕ) → k < length (take j vs) → x (slice_index (take j vs) k) ≡ zero_value
     front k below =
@@ -80,15 +81,15 @@ sum_at-at_most : (x : Point) (vs : List ℕ) (coefs : List Fraction) → All (λ
 sum_at-at_most x [] coefs low high = IsAtMost-self zero_value
 sum_at-at_most x (v ∷ vs) [] low high = IsAtMost-self zero_value
 sum_at-at_most x (v ∷ vs) (a ∷ coefs) low high =
-    subst (IsAtMost (a ⊗ x v ⊕ sum_at x vs coefs)) (sum-zero zero_value IsReduced-zero)
+    subst (IsAtMost (a ⊗ x v ⊕ sum_at x vs coefs)) (exact_sum-zero_right zero_value apart_of-zero)
     (IsAtMost-sums (a ⊗ x v) zero_value (sum_at x vs coefs) zero_value
     (subst (IsAtMost (a ⊗ x v)) (exact_product-zero_left (x v)) (IsAtMost-product a zero_value (x v) (high v) (All-head (λ b. IsAtMost b zero_value) a coefs low)))
     (sum_at-at_most x vs coefs (All-tail (λ b. IsAtMost b zero_value) a coefs low) high))
 
 -- a row that no column makes greater is at most its constant
-pub total-at_most : (x : Point) (vs : List ℕ) (row : List Fraction) → IsReduced (entry row 0) → HasNoRise row → ((v : ℕ) → IsAtMost zero_value (x v)) → IsAtMost (total x vs row) (entry row 0)
+pub total-at_most : (x : Point) (vs : List ℕ) (row : List Fraction) → IsInLowestTerms (entry row 0) → HasNoRise row → ((v : ℕ) → IsAtMost zero_value (x v)) → IsAtMost (total x vs row) (entry row 0)
 total-at_most x vs row low falls high =
-    subst (IsAtMost (total x vs row)) (sum-zero (entry row 0) low)
+    subst (IsAtMost (total x vs row)) (exact_sum-zero_right (entry row 0) low)
     (IsAtMost-sums (entry row 0) (entry row 0) (sum_at x vs (drop 1 row)) zero_value (IsAtMost-self (entry row 0)) (sum_at-at_most x vs (drop 1 row) falls high))
 
 -- ---- the own point
@@ -114,14 +115,14 @@ pub own_columns-none : (d : Dictionary) (coefs : List Fraction) → IsLawful d �
 own_columns-none d coefs lawful = sum_at-none (own_point d) d.nonbasic coefs (λ k within. own_point-nonbasic d k lawful within)
 
 -- each row's constant, and that of an objective, is in lowest terms
-pub constant-wide : (n : ℕ) (row : List Fraction) → IsWide n row → All IsReduced row → IsReduced (entry row 0)
-constant-wide n row wide low = All-get_or IsReduced row 0 zero_value (omega (arith, wide)) low
+pub constant-wide : (n : ℕ) (row : List Fraction) → IsWide n row → All IsInLowestTerms row → IsInLowestTerms (entry row 0)
+constant-wide n row wide low = All-get_or IsInLowestTerms row 0 zero_value (omega (arith, wide)) low
 
-pub constants-reduced : (d : Dictionary) → IsLawful d → All (λ row. IsReduced (entry row 0)) d.rows
+pub constants-reduced : (d : Dictionary) → IsLawful d → All (λ row. IsInLowestTerms (entry row 0)) d.rows
 constants-reduced d lawful k e within =
     constant-wide (length d.nonbasic) (slice_index_or d.rows k e) (lawful.shape.row_entries k e within) (lawful.reduced.rows k e within)
 
-pub objective-reduced : (d : Dictionary) → IsLawful d → IsReduced (entry d.objective 0)
+pub objective-reduced : (d : Dictionary) → IsLawful d → IsInLowestTerms (entry d.objective 0)
 objective-reduced d lawful =
     constant-wide (length d.nonbasic) d.objective lawful.shape.objective_entries lawful.reduced.objective
 
@@ -129,11 +130,11 @@ pub own_point-solves : (d : Dictionary) → IsLawful d → Solves d (own_point d
 own_point-solves d lawful =
     let low = constants-reduced d lawful in
     let same = lawful.shape.rows in
-    solves_from_true d (own_point d) (λ v. own_point-all IsReduced d v IsReduced-zero low)
+    solves_from_true d (own_point d) (λ v. own_point-all IsInLowestTerms d v apart_of-zero low)
     (λ i within.
     let k = entry (slice_index_or d.rows i []) 0 in
     own_point-basic d i lawful within
-    ∙ sym (ap (λ s. k ⊕ minus s) (own_columns-none d (drop 1 (slice_index_or d.rows i [])) lawful) ∙ minus-none k (All-get_or (λ row. IsReduced (entry row 0)) d.rows i [] (omega (arith, same, within)) low)))
+    ∙ sym (ap (λ s. k ⊕ minus s) (own_columns-none d (drop 1 (slice_index_or d.rows i [])) lawful) ∙ minus-none k (All-get_or (λ row. IsInLowestTerms (entry row 0)) d.rows i [] (omega (arith, same, within)) low)))
 
 pub own_point-feasible : (d : Dictionary) → IsLawful d → HasFeasibleConstants d → IsFeasible d (own_point d)
 own_point-feasible d lawful constants = record {
@@ -143,4 +144,4 @@ own_point-feasible d lawful constants = record {
 
 pub own_point-value : (d : Dictionary) → IsLawful d → objective_at d (own_point d) ≡ entry d.objective 0
 own_point-value d lawful =
-    ap (λ s. entry d.objective 0 ⊕ s) (own_columns-none d (drop 1 d.objective) lawful) ∙ sum-zero (entry d.objective 0) (objective-reduced d lawful)
+    ap (λ s. entry d.objective 0 ⊕ s) (own_columns-none d (drop 1 d.objective) lawful) ∙ exact_sum-zero_right (entry d.objective 0) (objective-reduced d lawful)

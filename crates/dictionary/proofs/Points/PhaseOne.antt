@@ -4,15 +4,17 @@ use Rattle.std.proofs.lemmas.List.{get_or-map, length-replicate}
 use Rattle.std.proofs.lemmas.List.Elements.{All-get_or}
 use Rattle.frac128.specs.Fraction.{Fraction, exact_sum, negation, one_value, zero_value}
 use Rattle.frac128.specs.Order.{IsAtMost, IsBelow}
-use Rattle.frac128.proofs.Field.{exact_product-negation_left, exact_product-one_left, exact_product-zero_left, exact_product-zero_right, negation-negation}
+use Rattle.frac128.proofs.Field.{apart_of-product, apart_of-zero, exact_product-negation_left, exact_product-one_left, exact_product-zero_left, exact_product-zero_right, exact_sum-zero_left, exact_sum-zero_right, negation-negation}
 use Rattle.frac128.proofs.Ordered.{IsAtMost-self, IsBelow-not}
 use Rattle.dictionary.specs.Dictionary.{Dictionary, IsInShape, entry, with_artificial}
-use Rattle.dictionary.specs.Solutions.{own_point, HasNoRise, IsFeasible, IsLawful, IsPhaseOne, IsReduced, Pivots, Point, Solves, objective_at, sum_at, total_at, without_artificial_value}
+use Rattle.dictionary.specs.Solutions.{own_point, HasNoRise, IsFeasible, IsLawful, IsPhaseOne, Pivots, Point, Solves, objective_at, sum_at, total_at, without_artificial_value}
+use Rattle.frac128.specs.Lowest.{IsInLowestTerms}
 use Rattle.dictionary.proofs.Points.ExactPivot.{same_some}
 use Rattle.dictionary.proofs.Points.Lawful.{All-left, All-right, IsWide}
 use Rattle.dictionary.proofs.Points.OwnPoint.{constant-wide, own_columns-none, own_point-solves, total-at_most}
 use Rattle.dictionary.proofs.Points.PivotLaw.{auxiliary_kept, solutions_kept, solves_from_true, true_from_solves}
-use Rattle.dictionary.proofs.Points.Sums.{◌⊕◌, ◌⊗◌, IsReduced-product, IsReduced-sum_at, IsReduced-zero, minus, sum-zero, sum_at-middle, zero-sum}
+use Rattle.dictionary.proofs.Points.Sums.{apart_of-sum_at, sum_at-middle}
+use Rattle.frac128.proofs.Sums.{minus, ◌⊕◌, ◌⊗◌}
 use Rattle.dictionary.proofs.Points.Turned.{told, total}
 
 -- ---- w at its best
@@ -24,7 +26,7 @@ auxiliary_all P d w all is_w = subst (λ o. IfSome o P) is_w all
 pub auxiliary-at_most : (d : Dictionary) (w : List Fraction) (x : Point) → IsLawful d → d.auxiliary ≡ Some w → HasNoRise w → IsFeasible d x → IsAtMost (total_at d x w) (entry w 0)
 auxiliary-at_most d w x lawful is_w falls feasible =
     total-at_most x d.nonbasic w
-    (constant-wide (length d.nonbasic) w (auxiliary_all (IsWide (length d.nonbasic)) d w lawful.shape.auxiliary_entries is_w) (auxiliary_all (All IsReduced) d w lawful.reduced.auxiliary is_w))
+    (constant-wide (length d.nonbasic) w (auxiliary_all (IsWide (length d.nonbasic)) d w lawful.shape.auxiliary_entries is_w) (auxiliary_all (All IsInLowestTerms) d w lawful.reduced.auxiliary is_w))
     falls feasible.at_least_zero
 
 pub no_point : (d : Dictionary) (w : List Fraction) (x : Point) → IsLawful d → IsPhaseOne d → d.auxiliary ≡ Some w → HasNoRise w → IsBelow (entry w 0) zero_value → IsFeasible d x → x 0 ≢ zero_value
@@ -39,7 +41,7 @@ own_artificial-zero d w lawful phase is_w none =
     let x = own_point d in
     let solves = own_point-solves d lawful in
     let is_total : Some (total_at d x w) ≡ Some (negation (x 0)) = subst (λ o. option_map (total_at d x) o ≡ Some (negation (x 0))) is_w (phase.is_negation x solves) in
-    let is_zero : total_at d x w ≡ zero_value = ap₂ (λ k s. k ⊕ s) none (own_columns-none d (drop 1 w) lawful) ∙ sum-zero zero_value IsReduced-zero in
+    let is_zero : total_at d x w ≡ zero_value = ap₂ (λ k s. k ⊕ s) none (own_columns-none d (drop 1 w) lawful) ∙ exact_sum-zero_right zero_value apart_of-zero in
     sym (negation-negation (x 0)) ∙ ap negation (sym (same_some is_total) ∙ is_zero)
 
 pub IsPhaseOne-kept : (r c : ℕ) (d e : Dictionary) → IsLawful d → Pivots r c d e → IsPhaseOne d → IsPhaseOne e
@@ -53,7 +55,7 @@ IsPhaseOne-kept r c d e lawful h phase = record {
 
 sum_at-last : (x : Point) (vs : List ℕ) (coefs : List Fraction) (v : ℕ) (a : Fraction) → length coefs ≡ length vs → sum_at x (vs ++ v ∷ []) (coefs ++ a ∷ []) ≡ sum_at x vs coefs ⊕ a ⊗ x v
 sum_at-last x vs coefs v a same =
-    sum_at-middle x vs [] coefs [] v a same ∙ ap (λ s. s ⊕ a ⊗ x v) (sum-zero (sum_at x vs coefs) (IsReduced-sum_at x vs coefs))
+    sum_at-middle x vs [] coefs [] v a same ∙ ap (λ s. s ⊕ a ⊗ x v) (exact_sum-zero_right (sum_at x vs coefs) (apart_of-sum_at x vs coefs))
 
 -- a row with one more entry
 last_columns : (x : Point) (vs : List ℕ) (row : List Fraction) (a : Fraction) → IsWide (length vs) row → sum_at x (vs ++ 0 ∷ []) (drop 1 (row ++ a ∷ [])) ≡ sum_at x vs (drop 1 row) ⊕ a ⊗ x 0
@@ -64,7 +66,7 @@ last_columns-none : (x : Point) (vs : List ℕ) (row : List Fraction) (a : Fract
 last_columns-none x vs row a wide none =
     last_columns x vs row a wide
     ∙ ap (λ s. sum_at x vs (drop 1 row) ⊕ s) (ap (λ y. a ⊗ y) none ∙ exact_product-zero_right a)
-    ∙ sum-zero (sum_at x vs (drop 1 row)) (IsReduced-sum_at x vs (drop 1 row))
+    ∙ exact_sum-zero_right (sum_at x vs (drop 1 row)) (apart_of-sum_at x vs (drop 1 row))
 
 pub same_constant : (n : ℕ) (row : List Fraction) (a : Fraction) → IsWide n row → entry (row ++ a ∷ []) 0 ≡ entry row 0
 same_constant n [] a wide = absurd (omega (arith, wide))
@@ -100,14 +102,14 @@ artificial-objective d x shape none =
 sum_at-zeros : (x : Point) (vs : List ℕ) (n : ℕ) → sum_at x vs (replicate n zero_value) ≡ zero_value
 sum_at-zeros x [] n = refl
 sum_at-zeros x (v ∷ vs) zero = refl
-sum_at-zeros x (v ∷ vs) (suc n) = ap₂ exact_sum (exact_product-zero_left (x v)) (sum_at-zeros x vs n) ∙ sum-zero zero_value IsReduced-zero
+sum_at-zeros x (v ∷ vs) (suc n) = ap₂ exact_sum (exact_product-zero_left (x v)) (sum_at-zeros x vs n) ∙ exact_sum-zero_right zero_value apart_of-zero
 
-artificial-total : (x : Point) (vs : List ℕ) → IsReduced (x 0) → total x (vs ++ 0 ∷ []) (replicate (suc (length vs)) zero_value ++ negation one_value ∷ []) ≡ negation (x 0)
+artificial-total : (x : Point) (vs : List ℕ) → IsInLowestTerms (x 0) → total x (vs ++ 0 ∷ []) (replicate (suc (length vs)) zero_value ++ negation one_value ∷ []) ≡ negation (x 0)
 artificial-total x vs low =
     let own = negation one_value ⊗ x 0 in
-    let reduced = IsReduced-product (negation one_value) (x 0) in
-    ap (λ s. zero_value ⊕ s) (last_columns x vs (replicate (suc (length vs)) zero_value) (negation one_value) (length-replicate (suc (length vs)) zero_value) ∙ ap (λ s. s ⊕ own) (sum_at-zeros x vs (length vs)) ∙ zero-sum own reduced)
-    ∙ zero-sum own reduced ∙ exact_product-negation_left one_value (x 0) ∙ ap negation (exact_product-one_left (x 0) low.nothing_in_common)
+    let reduced = apart_of-product (negation one_value) (x 0) in
+    ap (λ s. zero_value ⊕ s) (last_columns x vs (replicate (suc (length vs)) zero_value) (negation one_value) (length-replicate (suc (length vs)) zero_value) ∙ ap (λ s. s ⊕ own) (sum_at-zeros x vs (length vs)) ∙ exact_sum-zero_left own reduced)
+    ∙ exact_sum-zero_left own reduced ∙ exact_product-negation_left one_value (x 0) ∙ ap negation (exact_product-one_left (x 0) low)
 
 pub artificial-phase_one : (d : Dictionary) → IsInShape d → IsPhaseOne (with_artificial d)
 unfolding with_artificial
@@ -142,7 +144,7 @@ put-feasible d x shape others feasible =
     let nonbasic = All-right (λ v. v ≢ 0) d.basic d.nonbasic others in
     let same_columns = λ (coefs : List Fraction). sum_at-same y x d.nonbasic coefs (λ k within. put-other x (slice_index d.nonbasic k) (nonbasic k 0 within)) in
     record {
-      solves = solves_from_true d y (λ v. put-all IsReduced x v IsReduced-zero (low v))
+      solves = solves_from_true d y (λ v. put-all IsInLowestTerms x v apart_of-zero (low v))
           (λ i within. put-other x (slice_index d.basic i) (basic i 0 within) ∙ true_from_solves d x feasible.solves i within
           ∙ ap (λ s. entry (slice_index_or d.rows i []) 0 ⊕ minus s) (sym (same_columns (drop 1 (slice_index_or d.rows i [])))));
       at_least_zero = λ v. put-all (IsAtMost zero_value) x v (IsAtMost-self zero_value) (feasible.at_least_zero v);

@@ -5,10 +5,11 @@ use Rattle.std.proofs.lemmas.List.{get_or_at, length-map}
 use Rattle.std.proofs.lemmas.List.Elements.{All-get_or}
 use Rattle.frac128.specs.Fraction.{Fraction}
 use Rattle.dictionary.specs.Dictionary.{Dictionary, entry}
-use Rattle.dictionary.specs.Solutions.{IsLawful, IsReduced, Pivots, Point, Solves, auxiliary_at, columns_at, objective_at}
+use Rattle.dictionary.specs.Solutions.{IsLawful, Pivots, Point, Solves, auxiliary_at, columns_at, objective_at}
+use Rattle.frac128.specs.Lowest.{IsInLowestTerms}
 use Rattle.dictionary.proofs.Points.Lawful.{IsWide, Turns, replaced-other, turns, wide_entries}
 use Rattle.dictionary.proofs.Points.ExactPivot.{less_one, other_objective, other_row, turned, turned_rows}
-use Rattle.dictionary.proofs.Points.Sums.{◌⊕◌, minus_is}
+use Rattle.frac128.proofs.Sums.{minus_is, ◌⊕◌}
 use Rattle.dictionary.proofs.Points.Turned.{told, told-other, total, total-other}
 
 -- the rows by their places, from 0 on
@@ -20,7 +21,7 @@ true_from_solves d x h i within =
     subst (λ place. x (slice_index d.basic place) ≡ told x d.nonbasic (slice_index_or d.rows place [])) (less_one i)
     (h.rows (suc i) (omega arith) (omega (arith, within)) ∙ ap (λ s. entry (slice_index_or d.rows (suc i - 1) []) 0 ⊕ s) (sym (minus_is (columns_at d x (slice_index_or d.rows (suc i - 1) [])))))
 
-pub solves_from_true : (d : Dictionary) (x : Point) → ((v : ℕ) → IsReduced (x v)) → AreTrue x d → Solves d x
+pub solves_from_true : (d : Dictionary) (x : Point) → ((v : ℕ) → IsInLowestTerms (x v)) → AreTrue x d → Solves d x
 solves_from_true d x low h = record {
   reduced = low;
   rows = λ r above within. h (r - 1) (omega (arith, above, within)) ∙ ap (λ s. entry (slice_index_or d.rows (r - 1) []) 0 ⊕ s) (minus_is (columns_at d x (slice_index_or d.rows (r - 1) [])));
@@ -40,7 +41,7 @@ row_turned i j d e lawful h solved =
     get_or_at (map (other_row j solved) (take i d.rows)) solved (map (other_row j solved) (drop (suc i) d.rows)) [] i (length-map (take i d.rows) (other_row j solved) ∙ length-take-le i d.rows (omega (arith, same, within)))
 
 -- the row that is solved says of a point what it said before
-own_row : (i j : ℕ) (d e : Dictionary) (x : Point) → ((v : ℕ) → IsReduced (x v)) → (h : Turns i j d e)
+own_row : (i j : ℕ) (d e : Dictionary) (x : Point) → ((v : ℕ) → IsInLowestTerms (x v)) → (h : Turns i j d e)
     → (x (slice_index d.basic i) ≡ told x d.nonbasic (slice_index_or d.rows i [])) ↔ (x (slice_index d.nonbasic j) ≡ told x (slice_set d.nonbasic j (slice_index d.basic i)) h.solved)
 own_row i j d e x low h = h.known.truth x (slice_index d.basic i) d.nonbasic low refl
 
@@ -53,7 +54,7 @@ other_rows i j k d e x lawful h is_true within other =
     ∙ told-other x j (slice_index d.basic i) d.nonbasic h.solved (slice_index_or d.rows k []) h.column_within
     (wide_entries (length d.nonbasic) h.solved h.known.wide) (wide_entries (length d.nonbasic) (slice_index_or d.rows k []) (row_wide d k lawful within)) is_true
 
-true_turned : (i j : ℕ) (d e : Dictionary) (x : Point) → IsLawful d → ((v : ℕ) → IsReduced (x v)) → (h : Turns i j d e) → AreTrue x d → AreTrue x (turned i j h.solved d)
+true_turned : (i j : ℕ) (d e : Dictionary) (x : Point) → IsLawful d → ((v : ℕ) → IsInLowestTerms (x v)) → (h : Turns i j d e) → AreTrue x d → AreTrue x (turned i j h.solved d)
 true_turned i j d e x lawful low h all k within =
     let v = slice_index d.nonbasic j in
     let vs = slice_set d.nonbasic j (slice_index d.basic i) in
@@ -65,7 +66,7 @@ true_turned i j d e x lawful low h all k within =
     (λ other. ap x (get_or-set_other d.basic i k v 0 other) ∙ all k long ∙ sym (other_rows i j k d e x lawful h solved long other))
     (cases_eq k i)
 
-true_before : (i j : ℕ) (d e : Dictionary) (x : Point) → IsLawful d → ((v : ℕ) → IsReduced (x v)) → (h : Turns i j d e) → AreTrue x (turned i j h.solved d) → AreTrue x d
+true_before : (i j : ℕ) (d e : Dictionary) (x : Point) → IsLawful d → ((v : ℕ) → IsInLowestTerms (x v)) → (h : Turns i j d e) → AreTrue x (turned i j h.solved d) → AreTrue x d
 true_before i j d e x lawful low h all k within =
     let v = slice_index d.nonbasic j in
     let vs = slice_set d.nonbasic j (slice_index d.basic i) in

@@ -3,11 +3,13 @@ use Rattle.std.proofs.Common.{◌≡◌, ◌≢◌, ◌↔◌, ◌∙◌, refl, 
 use Rattle.std.proofs.Math.Seq.{set_split, split_at}
 use Rattle.std.proofs.lemmas.List.{length-map}
 use Rattle.frac128.specs.Fraction.{Fraction, inverse, one_value, zero_value}
-use Rattle.frac128.proofs.Field.{exact_product-inverse, exact_product-one_left, exact_product-one_right, exact_product-sum, exact_product-sum_right, exact_product_assoc, exact_product_comm, inverse_apart}
+use Rattle.frac128.proofs.Field.{apart_of-sum, exact_product-inverse, exact_product-one_left, exact_product-one_right, exact_product-sum, exact_product-sum_right, exact_product_assoc, exact_product_comm, exact_sum-zero_left, inverse_apart}
 use Rattle.dictionary.specs.Dictionary.{entry}
-use Rattle.dictionary.specs.Solutions.{IsReduced, Point, sum_at}
+use Rattle.dictionary.specs.Solutions.{Point, sum_at}
+use Rattle.frac128.specs.Lowest.{IsInLowestTerms}
 use Rattle.dictionary.proofs.Points.ExactPivot.{other_entries, other_objective, other_row, solved_entries}
-use Rattle.dictionary.proofs.Points.Sums.{◌⊕◌, ◌⊗◌, IsReduced-sum, length-less_products, less_products, minus, minus-product, product-minus, sum-minus, sum_at-less, sum_at-middle, sum_at-scaled, sums, zero-sum}
+use Rattle.dictionary.proofs.Points.Sums.{length-less_products, less_products, sum_at-less, sum_at-middle, sum_at-scaled}
+use Rattle.frac128.proofs.Sums.{minus, minus-product, product-minus, sum-minus, sums, ◌⊕◌, ◌⊗◌}
 
 -- a basic variable's row, and an objective, at a point
 abbrev pub told : Point → List ℕ → List Fraction → Fraction
@@ -49,32 +51,32 @@ sum_at-solved x j u vs entries q within same =
     ∙ sym (exact_product-sum (sum_at x (take j vs) (take j entries)) (sum_at x (drop (suc j) vs) (drop (suc j) entries)) q))
 
 -- u = k - (t + p v), solved for v, where q is one over p
-solve : (k t p q u v : Fraction) → IsReduced v → q ⊗ p ≡ one_value → u ≡ k ⊕ minus (t ⊕ p ⊗ v) → v ≡ k ⊗ q ⊕ minus (t ⊗ q ⊕ q ⊗ u)
+solve : (k t p q u v : Fraction) → IsInLowestTerms v → q ⊗ p ≡ one_value → u ≡ k ⊕ minus (t ⊕ p ⊗ v) → v ≡ k ⊗ q ⊕ minus (t ⊗ q ⊕ q ⊗ u)
 solve k t p q u v low one is_u =
     let qu : q ⊗ u ≡ k ⊗ q ⊕ minus (t ⊗ q ⊕ v) =
     ap (λ s. q ⊗ s) is_u ∙ exact_product-sum_right q k (minus (t ⊕ p ⊗ v))
     ∙ ap₂ (λ a b. a ⊕ b) (exact_product_comm q k)
     (product-minus q (t ⊕ p ⊗ v) ∙ ap minus (exact_product-sum_right q t (p ⊗ v) ∙ ap₂ (λ a b. a ⊕ b) (exact_product_comm q t) own)) in
     sym (ap (λ s. k ⊗ q ⊕ minus (t ⊗ q ⊕ s)) qu ∙ twice (k ⊗ q) (t ⊗ q) v
-    ∙ ap₂ (λ a b. a ⊕ (b ⊕ v)) (sum-minus (k ⊗ q)) (sum-minus (t ⊗ q)) ∙ ap (λ s. zero_value ⊕ s) (zero-sum v low) ∙ zero-sum v low)
+    ∙ ap₂ (λ a b. a ⊕ (b ⊕ v)) (sum-minus (k ⊗ q)) (sum-minus (t ⊗ q)) ∙ ap (λ s. zero_value ⊕ s) (exact_sum-zero_left v low) ∙ exact_sum-zero_left v low)
   where
     own : q ⊗ (p ⊗ v) ≡ v
-    own = sym (exact_product_assoc q p v) ∙ ap (λ s. s ⊗ v) one ∙ exact_product-one_left v low.nothing_in_common
+    own = sym (exact_product_assoc q p v) ∙ ap (λ s. s ⊗ v) one ∙ exact_product-one_left v low
 
     twice : (a b c : Fraction) → a ⊕ minus (b ⊕ (a ⊕ minus (b ⊕ c))) ≡ (a ⊕ minus a) ⊕ ((b ⊕ minus b) ⊕ c)
     twice a b c = simp sums
 
 -- times q and times p
-over_and_times : (k p q : Fraction) → IsReduced k → q ⊗ p ≡ one_value → k ⊗ q ⊗ p ≡ k
-over_and_times k p q low one = exact_product_assoc k q p ∙ ap (λ s. k ⊗ s) one ∙ exact_product-one_right k low.nothing_in_common
+over_and_times : (k p q : Fraction) → IsInLowestTerms k → q ⊗ p ≡ one_value → k ⊗ q ⊗ p ≡ k
+over_and_times k p q low one = exact_product_assoc k q p ∙ ap (λ s. k ⊗ s) one ∙ exact_product-one_right k low
 
-solve_back : (k t p q u v : Fraction) → IsReduced k → IsReduced t → IsReduced u → q ⊗ p ≡ one_value → v ≡ k ⊗ q ⊕ minus (t ⊗ q ⊕ q ⊗ u) → u ≡ k ⊕ minus (t ⊕ p ⊗ v)
+solve_back : (k t p q u v : Fraction) → IsInLowestTerms k → IsInLowestTerms t → IsInLowestTerms u → q ⊗ p ≡ one_value → v ≡ k ⊗ q ⊕ minus (t ⊗ q ⊕ q ⊗ u) → u ≡ k ⊕ minus (t ⊕ p ⊗ v)
 solve_back k t p q u v low_k low_t low_u one is_v =
     solve (k ⊗ q) (t ⊗ q) q p v u low_u (exact_product_comm p q ∙ one) is_v
     ∙ ap₂ (λ a b. a ⊕ minus (b ⊕ p ⊗ v)) (over_and_times k p q low_k one) (over_and_times t p q low_t one)
 
 -- the row is true of a point exactly where the solved row is
-pub told-solved : (x : Point) (j u : ℕ) (vs : List ℕ) (k : Fraction) (entries : List Fraction) → ((v : ℕ) → IsReduced (x v)) → IsReduced k → IsReduced (entry entries j)
+pub told-solved : (x : Point) (j u : ℕ) (vs : List ℕ) (k : Fraction) (entries : List Fraction) → ((v : ℕ) → IsInLowestTerms (x v)) → IsInLowestTerms k → IsInLowestTerms (entry entries j)
     → (entry entries j).num ≢ pos 0 → j < length vs → length entries ≡ length vs
     → (x u ≡ told x vs (k ∷ entries)) ↔ (x (slice_index vs j) ≡ told x (slice_set vs j u) (k ⊗ inverse (entry entries j) ∷ solved_entries j (inverse (entry entries j)) entries))
 told-solved x j u vs k entries low low_k low_p some within same =
@@ -85,9 +87,9 @@ told-solved x j u vs k entries low low_k low_p some within same =
     let one : q ⊗ p ≡ one_value = exact_product_comm q p ∙ exact_product-inverse p some in
     let before : told x vs (k ∷ entries) ≡ k ⊕ minus (t ⊕ p ⊗ v) = ap (λ s. k ⊕ minus s) (sum_at-place x j vs entries within same) in
     let after : told x (slice_set vs j u) (k ⊗ q ∷ solved_entries j q entries) ≡ k ⊗ q ⊕ minus (t ⊗ q ⊕ q ⊗ x u) =
-    ap (λ s. k ⊗ q ⊕ minus s) (sum_at-solved x j u vs entries q within same ∙ ap (λ s. t ⊗ q ⊕ s ⊗ x u) (exact_product-one_left q (inverse_apart p some low_p.nothing_in_common))) in (
+    ap (λ s. k ⊗ q ⊕ minus s) (sum_at-solved x j u vs entries q within same ∙ ap (λ s. t ⊗ q ⊕ s ⊗ x u) (exact_product-one_left q (inverse_apart p some low_p))) in (
       λ h. solve k t p q (x u) v (low (slice_index vs j)) one (h ∙ before) ∙ sym after,
-      λ h. solve_back k t p q (x u) v low_k (IsReduced-sum _ _) (low u) one (h ∙ after) ∙ sym before,
+      λ h. solve_back k t p q (x u) v low_k (apart_of-sum _ _) (low u) one (h ∙ after) ∙ sym before,
     )
 
 -- ---- the others

@@ -1,4 +1,4 @@
-use Rattle.dictionary.specs.Dictionary.{less_product}
+use Rattle.frac128.specs.Checked.{less_product}
 use Rattle.dictionary.proofs.InOrder.{each_pair_onto-nil}
 use Rattle.dictionary.proofs.elimination.subtract_products.Goals as goal
 

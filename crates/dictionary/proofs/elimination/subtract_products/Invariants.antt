@@ -1,5 +1,6 @@
 use Rattle.std.proofs.Common.{◌≡◌, take, drop}
-use Rattle.dictionary.specs.Dictionary.{each_pair, less_product}
+use Rattle.dictionary.specs.Dictionary.{each_pair}
+use Rattle.frac128.specs.Checked.{less_product}
 use Rattle.dictionary.proofs.InOrder.{each_pair_onto}
 use Rattle.dictionary.proofs.elimination.subtract_products.Given as goal
 
