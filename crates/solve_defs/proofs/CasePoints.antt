@@ -66,7 +66,7 @@ within_from place (v ∷ vars) cuts whole (n ∷ X) d each within same = (
     next i = omega arith
 
 -- no relaxed variable is held to whole numbers
-relaxed_whole : (vars : List Var) (bounds : List Bounds) (X : List ℤ) (d : ℕ) → length bounds ≡ length vars → length X ≡ length vars
+pub relaxed_whole : (vars : List Var) (bounds : List Bounds) (X : List ℤ) (d : ℕ) → length bounds ≡ length vars → length X ≡ length vars
     → AllZip (λ v n. IsWholeIf (is_integer v.kind) d n) (relaxed_vars vars bounds) X
 relaxed_whole [] bounds [] d same long = tt
 relaxed_whole [] bounds (n ∷ X) d same long = absurd (omega (arith, long))

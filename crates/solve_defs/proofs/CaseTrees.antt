@@ -30,7 +30,7 @@ use Rattle.solve_defs.proofs.LeafLooks.{farkas_holds}
 -- ---- a split
 
 -- A whole number's value that is above k is at least one more.
-next_whole : (n k : ℤ) (d : ℕ) → d ∣ unsigned_abs n → (k *ℤ pos d) <ℤ n → ((k +ℤ pos 1) *ℤ pos d) ≤ℤ n
+pub next_whole : (n k : ℤ) (d : ℕ) → d ∣ unsigned_abs n → (k *ℤ pos d) <ℤ n → ((k +ℤ pos 1) *ℤ pos d) ≤ℤ n
 next_whole n k d divides less =
     let q = signed (is_below_zero n) (unsigned_abs n / d) in
     let same : q *ℤ pos d ≡ n = signed-mul (is_below_zero n) (unsigned_abs n / d) d ∙ ap (signed (is_below_zero n)) (div-mul_cancel d divides) ∙ signed-size n in
@@ -40,11 +40,11 @@ next_whole n k d divides less =
     next : (a b : ℤ) → a <ℤ b → (a +ℤ pos 1) ≤ℤ b
     next a b h = omega (arith, ints, h)
 
-times_one : (a : ℤ) → a *ℤ pos 1 ≡ a
+pub times_one : (a : ℤ) → a *ℤ pos 1 ≡ a
 times_one a = omega (arith, ints)
 
 -- at most k, or at least k + 1
-one_side : (n k : ℤ) (d : ℕ) → d ∣ unsigned_abs n → AtMost (quotient n d) (ratio (whole k)) ⊎ AtMost (ratio (whole (k +ℤ pos 1))) (quotient n d)
+pub one_side : (n k : ℤ) (d : ℕ) → d ∣ unsigned_abs n → AtMost (quotient n d) (ratio (whole k)) ⊎ AtMost (ratio (whole (k +ℤ pos 1))) (quotient n d)
 one_side n k d divides =
     by_lt_z (k *ℤ pos d) n
     (λ less. inr (subst (λ z. ((k +ℤ pos 1) *ℤ pos d) ≤ℤ z) (sym (times_one n)) (next_whole n k d divides less)))
@@ -65,11 +65,11 @@ abbrev at_least_cut : ℕ → ℤ → Cut
 at_least_cut place k = record { var = place; lower = Some (k +ℤ pos 1); upper = None }
 
 -- with one more cut
-further : (m : Model) (cuts : List Cut) (cut : Cut) (X : List ℤ) (d : ℕ) → IsCasePoint m cuts X d → IsWithinCut X d cut → IsCasePoint m (cuts ++ cut ∷ []) X d
+pub further : (m : Model) (cuts : List Cut) (cut : Cut) (X : List ℤ) (d : ℕ) → IsCasePoint m cuts X d → IsWithinCut X d cut → IsCasePoint m (cuts ++ cut ∷ []) X d
 further m cuts cut X d point within =
     record { feasible = point.feasible; within = All-append (IsWithinCut X d) cuts (cut ∷ []) point.within (All-cons (IsWithinCut X d) cut [] within (All-nil (IsWithinCut X d))) }
 
-split_sides : (m : Model) (cuts : List Cut) (number : ℕ) (k : ℤ) (X : List ℤ) (d : ℕ) → IsTrue (is_integer_number m.vars number) → IsCasePoint m cuts X d
+pub split_sides : (m : Model) (cuts : List Cut) (number : ℕ) (k : ℤ) (X : List ℤ) (d : ℕ) → IsTrue (is_integer_number m.vars number) → IsCasePoint m cuts X d
     → IsCasePoint m (cuts ++ at_most_cut (pred_number number) k ∷ []) X d ⊎ IsCasePoint m (cuts ++ at_least_cut (pred_number number) k ∷ []) X d
 split_sides m cuts number k X d integer point =
     ⊎_elim

@@ -7,20 +7,22 @@ use Rattle.std.proofs.lemmas.List.Sums.{sum_by-cons}
 use Rattle.frac128.specs.Checked.{checked_difference, ◌>>=◌}
 use Rattle.frac128.specs.Fraction.{Fraction, exact_difference, negation, zero_value}
 use Rattle.frac128.specs.Order.{IsAtMost}
-use Rattle.frac128.proofs.Field.{apart_of-sum, exact_sum-negation, exact_sum-zero_left, exact_sum-zero_right, exact_sum_assoc, exact_sum_comm, negation-negation, negation-sum}
+use Rattle.frac128.proofs.Field.{apart_of-sum, apart_of-zero, exact_sum-negation, exact_sum-zero_left, exact_sum-zero_right, exact_sum_assoc, exact_sum_comm, negation-negation, negation-sum}
 use Rattle.frac128.proofs.Integers.{size-neg}
 use Rattle.frac128.proofs.Ordered.{IsAtMost-difference, IsAtMost-negation, IsAtMost-self, IsAtMost-sum, IsAtMost_trans}
 use Rattle.dictionary.specs.declared.standard.StdRow.{StdRow}
 use Rattle.std.specs.Int.{IsGcd}
 use Rattle.frac128.specs.Fraction.{den}
 use Rattle.solve_defs.specs.Bounds.{Bounds}
-use Rattle.solve_defs.specs.Columns.{IsInLowestTerms, KeepsStdRow, columns_sum, exact_value, exact_values_from}
+use Rattle.solve_defs.specs.Columns.{KeepsStdRow, columns_sum, exact_value, exact_values_from}
+use Rattle.frac128.specs.Lowest.{IsInLowestTerms}
 use Rattle.solve_defs.specs.StandardForm.{Shape, shifted, mirrored, free, column_count, column_row, shape_between, span_row, span_rows, width}
 use Rattle.solve_defs.specs.Values.{value_at}
 use Rattle.solve_defs.proofs.FormLists.{Each, at_drop, each-append, each_left, each_right}
-use Rattle.solve_defs.proofs.FormQuotients.{◌⊕◌, at_most_lowest, lowest_at_most, raw, zero_apart}
+use Rattle.solve_defs.proofs.FormQuotients.{at_most_lowest, lowest_at_most, raw}
+use Rattle.frac128.proofs.Sums.{◌⊕◌}
 use Rattle.solve_defs.proofs.FormSums.{one_column, one_more, two_more}
-use Rattle.solve_defs.proofs.Results.{difference_is, same_ok, through}
+use Rattle.frac128.proofs.Chains.{difference_is, same_ok, through}
 
 -- ---- sums and differences
 
@@ -103,7 +105,7 @@ Within b x = WithinBoth b.lower b.upper x
 abbrev pub shape_of : Bounds → Shape
 shape_of b = shape_between b.lower b.upper
 
-some_column : (shape : Shape) → 0 < width shape
+pub some_column : (shape : Shape) → 0 < width shape
 some_column (shifted l u) = omega arith
 some_column (mirrored u) = omega arith
 some_column free = omega arith
@@ -162,8 +164,8 @@ pub low_negation : (x : Fraction) → IsInLowestTerms x → IsInLowestTerms (neg
 low_negation x low = subst (λ k. IsGcd k (den x) 1) (sym (size-neg x.num)) low
 
 parted_fit : (n : ℤ) (k : ℕ) → IsInLowestTerms (raw n k) → AreFit (parted n (raw n k))
-parted_fit (pos n) k low = ((low, record { at_most = omega (arith, ints) }), ((zero_apart, IsAtMost-self zero_value), tt))
-parted_fit (negsuc n) k low = ((zero_apart, IsAtMost-self zero_value), ((low_negation (raw (negsuc n) k) low, record { at_most = omega (arith, ints) }), tt))
+parted_fit (pos n) k low = ((low, record { at_most = omega (arith, ints) }), ((apart_of-zero, IsAtMost-self zero_value), tt))
+parted_fit (negsuc n) k low = ((apart_of-zero, IsAtMost-self zero_value), ((low_negation (raw (negsuc n) k) low, record { at_most = omega (arith, ints) }), tt))
 
 columns_fit : (lower upper : Option Fraction) (x : Fraction) → IsInLowestTerms x → WithinBoth lower upper x → AreFit (columns_of (shape_between lower upper) x)
 columns_fit (Some l) upper x low within = ((apart_of-sum x (negation l), IsAtMost-difference l x within.0), tt)

@@ -10,7 +10,8 @@ use Rattle.model_data.specs.declared.model.Direction.{Direction}
 use Rattle.model_data.specs.declared.model.Direction.TheVariants.{Minimize, Maximize}
 use Rattle.model_data.specs.declared.model.Model.{Model}
 use Rattle.dictionary.specs.declared.standard.Std.{Std}
-use Rattle.solve_defs.specs.Columns.{HasNoColumnsPoint, IsBestColumnsPoint, IsInLowestTerms, RisesWithoutBound, columns_sum, exact_point, form_value, model_value}
+use Rattle.solve_defs.specs.Columns.{HasNoColumnsPoint, IsBestColumnsPoint, RisesWithoutBound, columns_sum, exact_point, form_value, model_value}
+use Rattle.frac128.specs.Lowest.{IsInLowestTerms}
 use Rattle.solve_defs.specs.Points.{Below, HasNoPoint, IsBestPoint, IsBetter, IsUnbounded, Ratio, SameValue, objective_value, quotient, ratio, relaxation}
 use Rattle.solve_defs.specs.StandardForm.{shapes_of, standard_form}
 use Rattle.solve_defs.specs.Values.{turned, whole}
@@ -18,7 +19,8 @@ use Rattle.solve_defs.specs.declared.cut.Cut.{Cut}
 use Rattle.solve_defs.proofs.FormBounds.{low_negation}
 use Rattle.solve_defs.proofs.FormLaw.{columns_stand_for_points, points_come_from_columns}
 use Rattle.solve_defs.proofs.FormPoints.{objective_above_zero}
-use Rattle.solve_defs.proofs.FormQuotients.{◌⊕◌, at_most_lowest, from_same_value, lowest-raw, lowest_at_most, raw, value}
+use Rattle.solve_defs.proofs.FormQuotients.{at_most_lowest, from_same_value, lowest-raw, lowest_at_most, raw, value}
+use Rattle.frac128.proofs.Sums.{◌⊕◌}
 
 -- ---- quotients that are below each other
 

@@ -12,18 +12,21 @@ use Rattle.model_data.specs.declared.model.Model.{Model}
 use Rattle.model_data.specs.declared.model.Row.{Row}
 use Rattle.dictionary.specs.declared.standard.Std.{Std}
 use Rattle.solve_defs.specs.Bounds.{effective_bounds}
-use Rattle.solve_defs.specs.Columns.{ComesFromColumns, IsColumnsPoint, IsInLowestTerms, KeepsStdRow, columns_sum, exact_point, exact_value, exact_values_from, model_value}
+use Rattle.solve_defs.specs.Columns.{ComesFromColumns, IsColumnsPoint, KeepsStdRow, columns_sum, exact_point, exact_value, exact_values_from, model_value}
+use Rattle.frac128.specs.Lowest.{IsInLowestTerms}
 use Rattle.solve_defs.specs.Points.{HasValues, IsFeasible, IsFeasiblePoint, objective_value, relaxation}
-use Rattle.solve_defs.specs.StandardForm.{Shape, shifted, mirrored, free, column_count, entries, point_back, point_value, shapes_of, span_rows, standard_form, values_from, width}
-use Rattle.solve_defs.specs.Values.{turned, value_at}
+use Rattle.solve_defs.specs.StandardForm.{Shape, shifted, mirrored, free, column_count, point_back, point_value, shapes_of, span_rows, standard_form, values_from, width}
+use Rattle.solve_defs.specs.Values.{value_at}
 use Rattle.solve_defs.specs.declared.cut.Cut.{Cut}
 use Rattle.solve_defs.proofs.FormBounds.{AreFit, Within, columns_all_fit, columns_for, length-columns_for, shape_of, values_read, variables_back, variables_forth}
 use Rattle.solve_defs.proofs.FormLists.{Each, all_from_each, each-append, each_from_all, each_left, each_right}
-use Rattle.solve_defs.proofs.FormPoints.{AreFeasible, common, feasible_values, has_values, length-effective_bounds, objective_above_zero, objective_coefs, objective_is, values_feasible, values_of}
-use Rattle.solve_defs.proofs.FormQuotients.{◌⊕◌, same_value}
+use Rattle.solve_defs.proofs.FormPoints.{AreFeasible, common, feasible_values, has_values, objective_above_zero, objective_coefs, objective_is, values_feasible, values_of}
+use Rattle.solve_defs.proofs.FormQuotients.{same_value}
+use Rattle.frac128.proofs.Sums.{◌⊕◌}
 use Rattle.solve_defs.proofs.FormRows.{HoldsAt, IsRising, rows_back, rows_forth}
-use Rattle.solve_defs.proofs.FormValues.{Parts, length-entries, model_value_is, parts}
-use Rattle.solve_defs.proofs.Results.{difference_is, same_ok, sum_is, through}
+use Rattle.solve_defs.proofs.FormSizes.{length-obj, length-shapes_of}
+use Rattle.solve_defs.proofs.FormValues.{Parts, model_value_is, parts}
+use Rattle.frac128.proofs.Chains.{difference_is, same_ok, sum_is, through}
 
 -- ---- sizes and lowest terms
 
@@ -31,17 +34,8 @@ rising_rows : (n : ℕ) (rows : List Row) → Each (IsLawfulRow n) rows → Each
 rising_rows n [] h = tt
 rising_rows n (row ∷ rows) h = (h.0.rising, rising_rows n rows h.1)
 
-rises : (m : Model) → IsLawful m → Each (λ row. IsRising row.terms) m.rows
+pub rises : (m : Model) → IsLawful m → Each (λ row. IsRising row.terms) m.rows
 rises m lawful = rising_rows (length m.vars) m.rows (each_from_all (IsLawfulRow (length m.vars)) m.rows lawful.rows)
-
-length-shapes_of : (m : Model) (cuts : List Cut) → length m.vars ≡ length (shapes_of m cuts)
-length-shapes_of m cuts = sym (length-map (effective_bounds m cuts) shape_of ∙ length-effective_bounds m cuts)
-
-length-obj : (m : Model) (cuts : List Cut) (s : Std) → Parts m cuts s → length s.obj ≡ column_count (shapes_of m cuts)
-length-obj m cuts s p =
-    let cs = objective_coefs m in
-    ap length (sym p.form_obj) ∙ length-map (entries (shapes_of m cuts) cs) (turned m.direction)
-    ∙ length-entries (shapes_of m cuts) cs (length-map m.vars (λ v. v.obj) ∙ length-shapes_of m cuts)
 
 value_low : (shape : Shape) (x y : Fraction) → IsInLowestTerms (exact_value shape x y)
 value_low (shifted l u) x y = apart_of-sum l x
@@ -64,7 +58,7 @@ zipped R (x ∷ xs) (y ∷ ys) h = ap suc (zipped R xs ys h.1)
 
 -- ---- from columns to the model
 
-variables_feasible : (m : Model) (cuts : List Cut) (s : Std) (ys : List Fraction) → IsLawful m → Parts m cuts s → length ys ≡ column_count (shapes_of m cuts) → IsColumnsPoint s ys
+pub variables_feasible : (m : Model) (cuts : List Cut) (s : Std) (ys : List Fraction) → IsLawful m → Parts m cuts s → length ys ≡ column_count (shapes_of m cuts) → IsColumnsPoint s ys
     → AreFeasible m cuts (exact_point (shapes_of m cuts) ys)
 variables_feasible m cuts s ys lawful p long h =
     let shapes = shapes_of m cuts in

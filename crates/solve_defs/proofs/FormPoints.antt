@@ -6,7 +6,7 @@ use Rattle.std.proofs.Math.Nat.{mul-pos, mul_comm}
 use Rattle.std.proofs.lemmas.Int.{ints}
 use Rattle.frac128.specs.Fraction.{Fraction, den, lowest, zero_value}
 use Rattle.frac128.specs.Order.{IsAtMost}
-use Rattle.frac128.proofs.Field.{exact_sum_comm, lowest-self}
+use Rattle.frac128.proofs.Field.{apart_of-zero, exact_sum_comm, lowest-self}
 use Rattle.frac128.proofs.Integers.{mul-mul_pos}
 use Rattle.frac128.proofs.Seen.{lowest-same}
 use Rattle.model_data.specs.Size.{is_integer}
@@ -17,21 +17,24 @@ use Rattle.model_data.specs.declared.model.Sense.TheVariants.{Less, Greater, Equ
 use Rattle.model_data.specs.declared.model.Term.{Term}
 use Rattle.model_data.specs.declared.model.Var.{Var}
 use Rattle.solve_defs.specs.Bounds.{Bounds, both, bounds_from, effective_bounds}
-use Rattle.solve_defs.specs.Columns.{IsInLowestTerms, columns_sum}
+use Rattle.solve_defs.specs.Columns.{columns_sum}
+use Rattle.frac128.specs.Lowest.{IsInLowestTerms}
 use Rattle.solve_defs.specs.Points.{AtMost, Compares, HasValues, IsFeasible, IsWholeIf, IsWithin, KeepsRow, objective_value, over, quotient, ratio, relaxation, relaxed_vars, row_value, weighted_sum}
 use Rattle.solve_defs.specs.declared.cut.Cut.{Cut}
 use Rattle.solve_defs.proofs.FormBounds.{Within}
 use Rattle.solve_defs.proofs.FormLists.{Each, all_from_each, each_from_all, index-map}
-use Rattle.solve_defs.proofs.FormQuotients.{◌⊕◌, ◌⊗◌, at_least-value, at_most-value, lowest-raw, same_value, value, value-at_least, value-at_most, value-plus, value-step, zero-sum, zero_apart}
+use Rattle.solve_defs.proofs.FormQuotients.{at_least-value, at_most-value, lowest-raw, same_value, value, value-at_least, value-at_most, value-plus, value-step, zero-sum}
+use Rattle.frac128.proofs.Sums.{◌⊕◌, ◌⊗◌}
 use Rattle.solve_defs.proofs.FormRows.{Holds, HoldsAt}
 use Rattle.solve_defs.proofs.FormSums.{terms_sum}
+use Rattle.solve_defs.proofs.Relaxed.{length-bounds_from}
 
 -- the values of X / d
 abbrev pub values_of : List ℤ → ℕ → List Fraction
 values_of X d = map (λ n. lowest n d) X
 
 lowest_zero : (d : ℕ) → 0 < d → lowest (pos 0) d ≡ zero_value
-lowest_zero d p = lowest-same (pos 0) (pos 0) d 1 p (omega arith) (omega (arith, ints)) ∙ lowest-self zero_value zero_apart
+lowest_zero d p = lowest-same (pos 0) (pos 0) d 1 p (omega arith) (omega (arith, ints)) ∙ lowest-self zero_value apart_of-zero
 
 -- ---- sums
 
@@ -143,10 +146,6 @@ relaxed_bounds_from place [] (b ∷ bounds) same = absurd (omega (arith, same))
 relaxed_bounds_from place (v ∷ vars) [] same = absurd (omega (arith, same))
 relaxed_bounds_from place (v ∷ vars) (b ∷ bounds) same =
     ap₂ (λ x xs. x ∷ xs) (plain_bounds b.lower b.upper) (relaxed_bounds_from (suc place) vars bounds (omega (arith, same)))
-
-length-bounds_from : (place : ℕ) (vars : List Var) (cuts : List Cut) → length (bounds_from place vars cuts) ≡ length vars
-length-bounds_from place [] cuts = refl
-length-bounds_from place (v ∷ vars) cuts = ap suc (length-bounds_from (suc place) vars cuts)
 
 pub length-effective_bounds : (m : Model) (cuts : List Cut) → length (effective_bounds m cuts) ≡ length m.vars
 length-effective_bounds m cuts = length-bounds_from 0 m.vars cuts

@@ -7,28 +7,17 @@ use Rattle.frac128.specs.Fraction.{Fraction, den, exact_product, exact_sum, lowe
 use Rattle.frac128.specs.Order.{IsAtMost}
 use Rattle.frac128.proofs.Field.{apart_of-product, apart_of-sum, exact_product-sum, exact_product-zero_left, exact_product_comm, exact_sum-zero_left, exact_sum_assoc, exact_sum_comm, lowest-cross, lowest-self}
 use Rattle.frac128.proofs.Integers.{add-mul, mul-mul_pos}
-use Rattle.frac128.proofs.Kept.{IsKept-zero}
 use Rattle.frac128.proofs.Ordered.{IsAtMost_trans}
 use Rattle.frac128.proofs.Seen.{lowest-same}
-use Rattle.solve_defs.specs.Columns.{IsInLowestTerms}
+use Rattle.frac128.specs.Lowest.{IsInLowestTerms}
 use Rattle.solve_defs.specs.Points.{AtMost, Ratio, SameValue, over, plus, quotient, ratio, times}
-
-infixl 60 ◌⊕◌
-infixl 70 ◌⊗◌
-abbrev pub ◌⊕◌ : Fraction → Fraction → Fraction
-◌⊕◌ x y = exact_sum x y
-
-abbrev pub ◌⊗◌ : Fraction → Fraction → Fraction
-◌⊗◌ x y = exact_product x y
+use Rattle.frac128.proofs.Sums.{◌⊕◌, ◌⊗◌}
 
 -- ---- lowest terms by adding 0
 
 -- n over one more than k, as it stands
 abbrev pub raw : ℤ → ℕ → Fraction
 raw n k = record { num = n; below = k }
-
-pub zero_apart : IsInLowestTerms zero_value
-zero_apart = IsKept-zero.nothing_in_common
 
 sum-zero_is : (x : Fraction) → x ⊕ zero_value ≡ lowest x.num (den x)
 unfolding exact_sum

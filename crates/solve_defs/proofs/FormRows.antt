@@ -13,13 +13,16 @@ use Rattle.model_data.specs.declared.model.Sense.TheVariants.{Less, Greater, Equ
 use Rattle.model_data.specs.declared.model.Term.{Term}
 use Rattle.dictionary.specs.Dictionary.{each, numbers_from}
 use Rattle.dictionary.specs.declared.standard.StdRow.{StdRow}
-use Rattle.solve_defs.specs.Columns.{IsInLowestTerms, KeepsStdRow, columns_sum, exact_point, exact_values_from}
+use Rattle.solve_defs.specs.Columns.{KeepsStdRow, columns_sum, exact_point, exact_values_from}
+use Rattle.frac128.specs.Lowest.{IsInLowestTerms}
 use Rattle.solve_defs.specs.StandardForm.{Shape, by_sense, column_count, free, less_offset, negated, offset, row_entries, rows_of, side_less, width}
 use Rattle.solve_defs.specs.Values.{coefficient}
 use Rattle.solve_defs.proofs.FormLists.{Each, each-append, each_left, each_right, index-map}
-use Rattle.solve_defs.proofs.FormQuotients.{◌⊕◌, ◌⊗◌, at_most_lowest, lowest_at_most, zero-sum}
+use Rattle.solve_defs.proofs.FormQuotients.{at_most_lowest, lowest_at_most, zero-sum}
+use Rattle.frac128.proofs.Sums.{◌⊕◌, ◌⊗◌}
 use Rattle.solve_defs.proofs.FormSums.{columns_and_offsets, columns_sum-negation, columns_sum_low, offset_value, offsets, places_sum, terms_by_place, terms_sum}
-use Rattle.solve_defs.proofs.Results.{less_product_is, same_ok, through}
+use Rattle.frac128.proofs.Chains.{less_product_is, same_ok, through}
+use Rattle.dictionary.proofs.Opened.{length-numbers_from}
 
 -- ---- a right side without the offsets
 
@@ -128,10 +131,6 @@ module _ (columns offset_sum all side out : Fraction) (low : IsInLowestTerms col
   holds_forth Equal h = (at_most_forth columns offset_sum all side out low whole moved h.0, at_least_forth columns offset_sum all side out low whole moved h.1)
 
 -- ---- a row's sum as its columns'
-
-pub length-numbers_from : (first n : ℕ) → length (numbers_from first n) ≡ n
-length-numbers_from first zero = refl
-length-numbers_from first (suc n) = ap suc (length-numbers_from (suc first) n)
 
 pub length-exact_values_from : (column : ℕ) (shapes : List Shape) (ys : List Fraction) → length (exact_values_from column shapes ys) ≡ length shapes
 length-exact_values_from column [] ys = refl

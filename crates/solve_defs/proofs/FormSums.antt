@@ -5,27 +5,22 @@ use Rattle.std.proofs.lemmas.Bool.{eq-eqb}
 use Rattle.std.proofs.lemmas.Bool.Decides.{nat_tests}
 use Rattle.std.proofs.lemmas.List.Sums.{sum_by-cons}
 use Rattle.frac128.specs.Fraction.{Fraction, negation, one_value, zero_value}
-use Rattle.frac128.proofs.Field.{exact_product-negation_left, exact_product-negation_right, exact_product-one_left, exact_product-sum_right, exact_product-zero_left, exact_product-zero_right}
-use Rattle.frac128.proofs.Field.{apart_of-product, apart_of-sum, exact_sum-zero_left, exact_sum-zero_right, exact_sum_assoc, exact_sum_comm, negation-sum}
+use Rattle.frac128.proofs.Field.{apart_of-zero, exact_product-negation_left, exact_product-negation_right, exact_product-one_left, exact_product-sum_right, exact_product-zero_left, exact_product-zero_right}
+use Rattle.frac128.proofs.Field.{apart_of-sum, exact_sum-zero_left, exact_sum-zero_right, negation-sum}
 use Rattle.model_data.specs.declared.model.Term.{Term}
 use Rattle.dictionary.specs.Dictionary.{numbers_from}
-use Rattle.solve_defs.specs.Columns.{IsInLowestTerms, columns_sum, exact_values_from}
+use Rattle.solve_defs.specs.Columns.{columns_sum, exact_values_from}
+use Rattle.frac128.specs.Lowest.{IsInLowestTerms}
 use Rattle.solve_defs.specs.StandardForm.{Shape, shifted, mirrored, free, column_count, entries, offset, width}
 use Rattle.solve_defs.specs.Values.{coefficient, value_at}
 use Rattle.solve_defs.proofs.FormLists.{Each, at_drop, pairs_head, pairs_tail}
-use Rattle.solve_defs.proofs.FormQuotients.{◌⊕◌, ◌⊗◌, zero_apart}
-
-pub sum_left_comm : (x y z : Fraction) → x ⊕ (y ⊕ z) ≡ y ⊕ (x ⊕ z)
-sum_left_comm x y z = sym (exact_sum_assoc x y z) ∙ ap (λ s. s ⊕ z) (exact_sum_comm x y) ∙ exact_sum_assoc y x z
-
--- for `simp`: sums of values, sorted
-pub ruleset sums = (exact_sum_assoc, exact_sum_comm, sum_left_comm)
+use Rattle.frac128.proofs.Sums.{◌⊕◌, ◌⊗◌, sum_left_comm, sums}
 
 -- ---- sums over columns
 
 pub columns_sum_low : (coefs ys : List Fraction) → IsInLowestTerms (columns_sum coefs ys)
-columns_sum_low [] ys = zero_apart
-columns_sum_low (a ∷ coefs) [] = zero_apart
+columns_sum_low [] ys = apart_of-zero
+columns_sum_low (a ∷ coefs) [] = apart_of-zero
 columns_sum_low (a ∷ coefs) (y ∷ ys) = apart_of-sum (a ⊗ y) (columns_sum coefs ys)
 
 pub columns_sum-negation : (coefs ys : List Fraction) → columns_sum (map negation coefs) ys ≡ negation (columns_sum coefs ys)
@@ -38,7 +33,7 @@ no_columns : (n : ℕ) (ys : List Fraction) → columns_sum (replicate n zero_va
 no_columns zero ys = refl
 no_columns (suc n) [] = refl
 no_columns (suc n) (y ∷ ys) =
-    ap₂ (λ s t. s ⊕ t) (exact_product-zero_left y) (no_columns n ys) ∙ exact_sum-zero_left zero_value zero_apart
+    ap₂ (λ s t. s ⊕ t) (exact_product-zero_left y) (no_columns n ys) ∙ exact_sum-zero_left zero_value apart_of-zero
 
 -- 1 in one column, and 0 in the others
 pub one_column : (k : ℕ) (ys : List Fraction) → k < length ys → IsInLowestTerms (value_at ys k)
@@ -88,7 +83,7 @@ two_more k = omega arith
 -- each coefficient times its variable, as columns and what stands beside them
 pub columns_and_offsets : (shapes : List Shape) (column : ℕ) (cs ys zs : List Fraction) → drop column ys ≡ zs → length zs ≡ column_count shapes → length cs ≡ length shapes
     → columns_sum cs (exact_values_from column shapes ys) ≡ columns_sum (entries shapes cs) zs ⊕ columns_sum cs (offsets shapes)
-columns_and_offsets [] column [] ys zs at long same = sym (exact_sum-zero_left zero_value zero_apart)
+columns_and_offsets [] column [] ys zs at long same = sym (exact_sum-zero_left zero_value apart_of-zero)
 columns_and_offsets [] column (c ∷ cs) ys zs at long same = absurd (omega (arith, same))
 columns_and_offsets (shape ∷ shapes) column [] ys zs at long same = absurd (omega (arith, same))
 columns_and_offsets (shifted l u ∷ shapes) column (c ∷ cs) ys [] at long same =
@@ -126,7 +121,7 @@ terms_sum [] xs = zero_value
 terms_sum (t ∷ terms) xs = t.coef ⊗ value_at xs t.var ⊕ terms_sum terms xs
 
 pub terms_sum_low : (terms : List Term) (xs : List Fraction) → IsInLowestTerms (terms_sum terms xs)
-terms_sum_low [] xs = zero_apart
+terms_sum_low [] xs = apart_of-zero
 terms_sum_low (t ∷ terms) xs = apart_of-sum (t.coef ⊗ value_at xs t.var) (terms_sum terms xs)
 
 chosen : (b : Bool) (x : Fraction) (o : Option Fraction) → b ≡ true → unwrap_or (if b then Some x else o) zero_value ≡ x
@@ -165,7 +160,7 @@ past t terms first (x ∷ xs) below =
 one_term : (t : Term) (terms : List Term) (first k : ℕ) (xs : List Fraction) → Each (λ s. t.var < s.var) terms → t.var ≡ first + k
     → places_sum (t ∷ terms) first xs ≡ t.coef ⊗ value_at xs k ⊕ places_sum terms first xs
 one_term t terms first k [] above at =
-    sym (ap (λ s. s ⊕ zero_value) (exact_product-zero_right t.coef) ∙ exact_sum-zero_left zero_value zero_apart)
+    sym (ap (λ s. s ⊕ zero_value) (exact_product-zero_right t.coef) ∙ exact_sum-zero_left zero_value apart_of-zero)
 one_term t terms first zero (x ∷ xs) above at =
     let same : t.var ≡ first = omega (arith, at) in
     let none : coefficient terms first ≡ zero_value = ap (coefficient terms) (sym same) ∙ no_coefficient terms t.var above in
@@ -180,7 +175,7 @@ one_term t terms first (suc k) (x ∷ xs) above at =
 no_terms : (first : ℕ) (xs : List Fraction) → places_sum [] first xs ≡ zero_value
 no_terms first [] = refl
 no_terms first (x ∷ xs) =
-    ap₂ (λ s t. s ⊕ t) (exact_product-zero_left x) (no_terms (suc first) xs) ∙ exact_sum-zero_left zero_value zero_apart
+    ap₂ (λ s t. s ⊕ t) (exact_product-zero_left x) (no_terms (suc first) xs) ∙ exact_sum-zero_left zero_value apart_of-zero
 
 -- Where no variable stands twice, the sum over terms is the one over variables.
 pub terms_by_place : (terms : List Term) (xs : List Fraction) → AllPairs (λ s t. s.var < t.var) terms → terms_sum terms xs ≡ places_sum terms 0 xs

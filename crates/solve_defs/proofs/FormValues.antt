@@ -19,9 +19,10 @@ use Rattle.solve_defs.specs.StandardForm.{Shape, shifted, mirrored, free, column
 use Rattle.solve_defs.specs.Values.{turned}
 use Rattle.solve_defs.specs.declared.cut.Cut.{Cut}
 use Rattle.solve_defs.proofs.FormPoints.{objective_coefs}
-use Rattle.solve_defs.proofs.FormQuotients.{◌⊕◌, ◌⊗◌, zero-sum}
-use Rattle.solve_defs.proofs.FormSums.{columns_and_offsets, columns_sum-negation, offset_value, offsets, sums}
-use Rattle.solve_defs.proofs.Results.{plus_product_is, same_ok, through}
+use Rattle.solve_defs.proofs.FormQuotients.{zero-sum}
+use Rattle.frac128.proofs.Sums.{sums, ◌⊕◌, ◌⊗◌}
+use Rattle.solve_defs.proofs.FormSums.{columns_and_offsets, columns_sum-negation, offset_value, offsets}
+use Rattle.frac128.proofs.Chains.{plus_product_is, same_ok, through}
 
 -- ---- the parts
 

@@ -30,7 +30,7 @@ use Rattle.solve_defs.proofs.LeafShares.{row_den}
 use Rattle.solve_defs.proofs.LeafSums.{amount, total_of-steps}
 use Rattle.solve_defs.proofs.PointValues.{at_most_holds, at_point, below_low, low, low-at_most, low-objective_value, low-ratio, low-row_value, low_below, product_of_lowest, same_holds}
 use Rattle.solve_defs.proofs.Relaxed.{length-bounds_from}
-use Rattle.solve_defs.proofs.Totals.{◌⊕◌, ◌⊗◌, total, total-map, total-same, total_low}
+use Rattle.frac128.proofs.Sums.{◌⊕◌, ◌⊗◌, total, total-map, total-same, total_low}
 
 -- ---- one denominator
 
@@ -62,17 +62,17 @@ common (x ∷ xs) =
 
 -- ---- values by places
 
-same_low : (n : ℤ) (d : ℕ) (x : Fraction) → 0 < d → SameValue (quotient n d) (ratio x) → low (quotient n d) ≡ low (ratio x)
+pub same_low : (n : ℤ) (d : ℕ) (x : Fraction) → 0 < d → SameValue (quotient n d) (ratio x) → low (quotient n d) ≡ low (ratio x)
 same_low n d x some same = lowest-same n x.num d (den x) some (omega arith) same
 
-value_at_place : (X : List ℤ) (d : ℕ) (xs : List Fraction) (v : ℕ) → 0 < d → HasValues X d xs → at_point X d v ≡ low (ratio (value_at xs v))
+pub value_at_place : (X : List ℤ) (d : ℕ) (xs : List Fraction) (v : ℕ) → 0 < d → HasValues X d xs → at_point X d v ≡ low (ratio (value_at xs v))
 value_at_place [] d [] v some same = lowest-same (pos 0) (pos 0) d 1 some (omega arith) (omega (arith, ints))
 value_at_place [] d (x ∷ xs) v some same = absurd same
 value_at_place (n ∷ X) d [] v some same = absurd same
 value_at_place (n ∷ X) d (x ∷ xs) zero some same = same_low n d x some same.0
 value_at_place (n ∷ X) d (x ∷ xs) (suc v) some same = value_at_place X d xs v some same.1
 
-product_low : (a y : Fraction) → a ⊗ low (ratio y) ≡ a ⊗ y
+pub product_low : (a y : Fraction) → a ⊗ low (ratio y) ≡ a ⊗ y
 unfolding exact_product
 product_low a y = product_of_lowest a y.num (den y) (omega arith)
 
@@ -82,7 +82,7 @@ product_low a y = product_of_lowest a y.num (den y) (omega arith)
 pub from_zero : (steps : List Step) → low (ratio (total_of zero_value steps)) ≡ total amount steps
 from_zero steps = low-ratio (total_of zero_value steps) ∙ total_of-steps zero_value steps ∙ exact_sum-zero_left (total amount steps) (total_low amount steps)
 
-row_sum : (row : Row) (X : List ℤ) (d : ℕ) (xs : List Fraction) → 0 < d → HasValues X d xs → low (row_value row X d) ≡ low (ratio (total_of zero_value (row_steps row.terms xs)))
+pub row_sum : (row : Row) (X : List ℤ) (d : ℕ) (xs : List Fraction) → 0 < d → HasValues X d xs → low (row_value row X d) ≡ low (ratio (total_of zero_value (row_steps row.terms xs)))
 row_sum row X d xs some same =
     low-row_value row X d some
     ∙ total-same (λ t. t.coef ⊗ at_point X d t.var) (λ t. t.coef ⊗ value_at xs t.var) row.terms
@@ -172,7 +172,7 @@ integers_hold (n ∷ X) d (x ∷ xs) number (v ∷ vars) same long hold = (
 
 -- ---- the value
 
-terms_same : (coefs : List Fraction) (X : List ℤ) (d : ℕ) (xs : List Fraction) → 0 < d → HasValues X d xs → total (λ p. p.0 ⊗ lowest p.1 d) (zip coefs X) ≡ total (λ p. p.0 ⊗ p.1) (zip coefs xs)
+pub terms_same : (coefs : List Fraction) (X : List ℤ) (d : ℕ) (xs : List Fraction) → 0 < d → HasValues X d xs → total (λ p. p.0 ⊗ lowest p.1 d) (zip coefs X) ≡ total (λ p. p.0 ⊗ p.1) (zip coefs xs)
 terms_same [] X d xs some same = refl
 terms_same (coef ∷ coefs) [] d [] some same = refl
 terms_same (coef ∷ coefs) [] d (x ∷ xs) some same = absurd same
@@ -180,7 +180,7 @@ terms_same (coef ∷ coefs) (n ∷ X) d [] some same = absurd same
 terms_same (coef ∷ coefs) (n ∷ X) d (x ∷ xs) some same =
     ap₂ exact_sum (ap (λ y. coef ⊗ y) (same_low n d x some same.0) ∙ product_low coef x) (terms_same coefs X d xs some same.1)
 
-objective_sum : (m : Model) (X : List ℤ) (d : ℕ) (xs : List Fraction) → 0 < d → HasValues X d xs → low (objective_value m X d) ≡ low (ratio (total_of m.constant (objective_steps m xs)))
+pub objective_sum : (m : Model) (X : List ℤ) (d : ℕ) (xs : List Fraction) → 0 < d → HasValues X d xs → low (objective_value m X d) ≡ low (ratio (total_of m.constant (objective_steps m xs)))
 objective_sum m X d xs some same =
     let coefs = map (λ v. v.obj) m.vars in
     low-objective_value m X d some

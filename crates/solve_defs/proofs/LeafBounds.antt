@@ -5,8 +5,7 @@ use Rattle.std.proofs.Math.Nat.{mul-pos}
 use Rattle.std.proofs.lemmas.List.Elements.{All-cons, All-head, All-nil, All-tail}
 use Rattle.frac128.specs.Fraction.{Fraction, exact_sum, lowest, negation, zero_value}
 use Rattle.frac128.specs.Order.{IsAtMost, IsBelow}
-use Rattle.frac128.proofs.Field.{exact_product-negation_left, exact_product-zero_left, exact_sum-zero_left, exact_sum_comm, negation-negation, negation-sum}
-use Rattle.frac128.proofs.Kept.{IsKept-zero}
+use Rattle.frac128.proofs.Field.{apart_of-zero, exact_product-negation_left, exact_product-zero_left, exact_sum-zero_left, exact_sum_comm, negation-negation, negation-sum}
 use Rattle.frac128.proofs.Ordered.{IsAtMost-negation, IsAtMost-sum, IsAtMost-sums, IsAtMost_trans, IsBelow-not}
 use Rattle.model_data.specs.Lawful.{IsLawful}
 use Rattle.model_data.specs.declared.model.Direction.{Direction}
@@ -28,7 +27,7 @@ use Rattle.solve_defs.proofs.LeafSums.{amount, combined, combined_is, kind-at_mo
 use Rattle.solve_defs.proofs.Places.{places}
 use Rattle.solve_defs.proofs.PointValues.{at_point, low, low-at_most, low-objective_value, low-ratio, low_below, weighted_den}
 use Rattle.solve_defs.proofs.Relaxed.{All-nth, point_long, point_within}
-use Rattle.solve_defs.proofs.Totals.{◌⊕◌, ◌⊗◌, total, total_low}
+use Rattle.frac128.proofs.Sums.{◌⊕◌, ◌⊗◌, total, total_low}
 
 -- ---- lists, taken apart
 
@@ -146,7 +145,7 @@ nothing : (x : ℕ → Fraction) (place : ℕ) (vars : List Var) → combined x 
 nothing x place [] = refl
 nothing x place (v ∷ vars) =
     ap (λ s. s ⊕ combined x (suc place) (map (λ _. zero_value) vars)) (exact_product-zero_left (x place))
-    ∙ ap (λ s. zero_value ⊕ s) (nothing x (suc place) vars) ∙ exact_sum-zero_left zero_value IsKept-zero.nothing_in_common
+    ∙ ap (λ s. zero_value ⊕ s) (nothing x (suc place) vars) ∙ exact_sum-zero_left zero_value apart_of-zero
 
 -- ---- the bound
 

@@ -25,7 +25,7 @@ use Rattle.solve_defs.specs.declared.verdict.Verdict.{Verdict}
 use Rattle.solve_defs.specs.declared.verdict.Verdict.TheVariants.{Valid, Invalid}
 use Rattle.solve_defs.proofs.LeafBounds.{All-left, All-right, no_point, objective_den, side_bounds}
 use Rattle.solve_defs.proofs.PointValues.{at_most-low, at_most_holds, below_holds, below_low, low, low_below}
-use Rattle.solve_defs.proofs.Results.{difference_is, less_product_is, plus_product_is, same_ok, sum_is, through}
+use Rattle.frac128.proofs.Chains.{difference_is, less_product_is, plus_product_is, same_ok, sum_is, through}
 
 -- ---- a leaf
 

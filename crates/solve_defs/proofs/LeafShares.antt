@@ -22,7 +22,7 @@ use Rattle.solve_defs.proofs.LeafSums.{amount}
 use Rattle.solve_defs.proofs.Places.{only_place, places, row_by_places}
 use Rattle.solve_defs.proofs.PointValues.{at_most-low, at_most_holds, at_point, below_low, low, low-ratio, low-row_value, low_below, weighted_den}
 use Rattle.solve_defs.proofs.Relaxed.{IsWithinAt}
-use Rattle.solve_defs.proofs.Totals.{◌⊕◌, ◌⊗◌, of_some, product-total, total, total-same}
+use Rattle.frac128.proofs.Sums.{◌⊕◌, ◌⊗◌, of_some, product-total, total, total-same}
 
 -- ---- rows
 

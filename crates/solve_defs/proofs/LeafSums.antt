@@ -14,7 +14,7 @@ use Rattle.solve_defs.specs.Values.{is_same}
 use Rattle.solve_defs.specs.declared.verdict.Place.TheVariants.{LeafSum}
 use Rattle.solve_defs.proofs.Places.{places}
 use Rattle.solve_defs.proofs.PointValues.{low-ratio, same_holds}
-use Rattle.solve_defs.proofs.Totals.{◌⊕◌, ◌⊗◌, of_some, total, total-append, total-at_most, total-exchange, total-filter_map, total-map, total-plus, total-product, total-same, total_low}
+use Rattle.frac128.proofs.Sums.{◌⊕◌, ◌⊗◌, of_some, total, total-append, total-at_most, total-exchange, total-filter_map, total-map, total-plus, total-product, total-same, total_low}
 
 -- ---- steps
 

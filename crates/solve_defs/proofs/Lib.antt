@@ -8,6 +8,7 @@ pub mod FormLists
 pub mod FormPoints
 pub mod FormQuotients
 pub mod FormRows
+pub mod FormSizes
 pub mod FormSums
 pub mod FormValues
 pub mod Forms
@@ -22,8 +23,6 @@ pub mod PointExamples
 pub mod PointValues
 pub mod Rays
 pub mod Relaxed
-pub mod Results
-pub mod Totals
 pub mod ValidOutcomes
 pub mod ValidRays
 pub mod ValidTrees

@@ -6,7 +6,8 @@ use Rattle.frac128.specs.Fraction.{Fraction, exact_sum, zero_value}
 use Rattle.frac128.proofs.Field.{apart_of-product, exact_product-zero_left, exact_sum-zero_left, exact_sum-zero_right}
 use Rattle.model_data.specs.declared.model.Term.{Term}
 use Rattle.solve_defs.specs.Values.{coefficient, term_of}
-use Rattle.solve_defs.proofs.Totals.{◌⊕◌, ◌⊗◌, IsLow, no_zeros, total, total-plus, total-same, total-zero}
+use Rattle.frac128.proofs.Sums.{◌⊕◌, ◌⊗◌, no_zeros, total, total-plus, total-same, total-zero}
+use Rattle.frac128.specs.Lowest.{IsInLowestTerms}
 
 -- so many places from this one on
 abbrev pub places : ℕ → ℕ → List ℕ
@@ -19,7 +20,7 @@ none_before g v first (suc n) apart before =
     ap₂ exact_sum (apart first (λ e. omega (arith, e, before))) (none_before g v (suc first) n apart (omega (arith, before))) ∙ sym no_zeros
 
 -- One place alone counts.
-pub only_place : (g : ℕ → Fraction) (v first n : ℕ) → ((j : ℕ) → (j ≡ v → ⊥) → g j ≡ zero_value) → IsLow (g v) → first ≤ v → v < first + n → total g (places first n) ≡ g v
+pub only_place : (g : ℕ → Fraction) (v first n : ℕ) → ((j : ℕ) → (j ≡ v → ⊥) → g j ≡ zero_value) → IsInLowestTerms (g v) → first ≤ v → v < first + n → total g (places first n) ≡ g v
 only_place g v first zero apart low from to = absurd (omega (arith, from, to))
 only_place g v first (suc n) apart low from to =
     ⊎_elim

@@ -7,16 +7,15 @@ use Rattle.std.proofs.Math.Nat.{mul-pos, mul_comm}
 use Rattle.std.proofs.lemmas.Int.{ints}
 use Rattle.frac128.specs.Fraction.{Fraction, den, exact_product, exact_sum, lowest, zero_value}
 use Rattle.frac128.specs.Order.{IsAtMost, IsBelow, order_of}
-use Rattle.frac128.proofs.Field.{apart_of-sum, exact_sum-zero_right, exact_sum_assoc, lowest-cross, lowest-self}
+use Rattle.frac128.proofs.Field.{apart_of-sum, apart_of-zero, exact_sum-zero_right, exact_sum_assoc, lowest-cross, lowest-self}
 use Rattle.frac128.proofs.Integers.{add-mul, le_of_lt_not, mul-mul_comm, mul-mul_pos}
-use Rattle.frac128.proofs.Kept.{IsKept-zero}
 use Rattle.frac128.proofs.Ordered.{IsAtMost-from_below, IsAtMost-lowest, IsBelow-lowest, IsBelow-not, order_of-tells}
 use Rattle.frac128.proofs.Seen.{lowest-same}
 use Rattle.model_data.specs.declared.model.Model.{Model}
 use Rattle.model_data.specs.declared.model.Row.{Row}
 use Rattle.solve_defs.specs.Points.{AtMost, Ratio, objective_value, over, plus, ratio, row_value, times, weighted_sum}
 use Rattle.solve_defs.specs.Values.{is_at_most, is_below, is_same}
-use Rattle.solve_defs.proofs.Totals.{◌⊕◌, ◌⊗◌, total, total-map}
+use Rattle.frac128.proofs.Sums.{◌⊕◌, ◌⊗◌, total, total-map}
 
 -- ---- sums and products in lowest terms
 
@@ -87,7 +86,7 @@ weighted_den (p ∷ ps) = mul-pos (omega arith) (weighted_den ps)
 
 pub low-weighted_sum : (ps : List (Fraction × ℤ)) (d : ℕ) → 0 < d → low (over d (weighted_sum ps)) ≡ total (λ p. p.0 ⊗ lowest p.1 d) ps
 low-weighted_sum [] d some =
-    lowest-same (pos 0) (pos 0) (1 * d) 1 (mul-pos (omega arith) some) (omega arith) (omega (arith, ints)) ∙ lowest-self zero_value IsKept-zero.nothing_in_common
+    lowest-same (pos 0) (pos 0) (1 * d) 1 (mul-pos (omega arith) some) (omega arith) (omega (arith, ints)) ∙ lowest-self zero_value apart_of-zero
 low-weighted_sum (p ∷ ps) d some =
     low-over_plus (times p.0 p.1) (weighted_sum ps) d (omega arith) (weighted_den ps) some
     ∙ ap₂ exact_sum (sym (product_of_lowest p.0 p.1 d some)) (low-weighted_sum ps d some)

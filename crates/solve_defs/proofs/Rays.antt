@@ -32,7 +32,8 @@ use Rattle.solve_defs.proofs.LeafBounds.{All-left, All-right, objective_den}
 use Rattle.solve_defs.proofs.LeafShares.{kept}
 use Rattle.solve_defs.proofs.LeafSums.{amount, total_of-steps}
 use Rattle.solve_defs.proofs.PointValues.{at_most-low, at_most_holds, at_most_shown, below_holds, below_low, low, low-ratio, low_below, same_holds, same_shown}
-use Rattle.solve_defs.proofs.Totals.{◌⊕◌, ◌⊗◌, IsLow, interchange, no_zeros, total, total-map, total-plus, total-same, product-total}
+use Rattle.frac128.proofs.Sums.{◌⊕◌, ◌⊗◌, interchange, no_zeros, total, total-map, total-plus, total-same, product-total}
+use Rattle.frac128.specs.Lowest.{IsInLowestTerms}
 
 -- ---- along a ray
 
@@ -247,7 +248,7 @@ record Far (a g y : Fraction) : Type 0 where
   pub beyond : IsBelow y (a ⊕ t ⊗ g)
 
 -- what is added to a, where t * g is y - a and g
-reaches : (a g y : Fraction) → IsLow g → IsBelow zero_value g → a ⊕ ((y ⊕ negation a) ⊗ inverse g ⊕ one_value) ⊗ g ≡ y ⊕ g
+reaches : (a g y : Fraction) → IsInLowestTerms g → IsBelow zero_value g → a ⊕ ((y ⊕ negation a) ⊗ inverse g ⊕ one_value) ⊗ g ≡ y ⊕ g
 reaches a g y low_g above =
     ap (λ s. a ⊕ s)
     (exact_product-sum ((y ⊕ negation a) ⊗ inverse g) one_value g
@@ -264,7 +265,7 @@ reaches a g y low_g above =
     not_zero : g.num ≡ pos 0 → ⊥
     not_zero e = let some = (above_zero g).0 above in omega (arith, ints, some, e)
 
-far : (a g y : Fraction) → IsLow g → IsBelow zero_value g → Far a g y
+far : (a g y : Fraction) → IsInLowestTerms g → IsBelow zero_value g → Far a g y
 far a g y low_g above = ⊎_elim here beyond_it (cases_below y a)
   where
     here : IsBelow y a → Far a g y
@@ -299,8 +300,8 @@ low-below : (r s : Ratio) → 0 < r.den → 0 < s.den → IsBelow (low r) (low s
 low-below r s r_some s_some h =
     lt_of_le_not (r.num *ℤ pos s.den) (s.num *ℤ pos r.den) (λ most. IsBelow-not (low r) (low s) h (at_most-low s r s_some r_some most))
 
-IsLow-negation : (x : Fraction) → IsLow x → IsLow (negation x)
-IsLow-negation x low_x = subst (λ k. IsGcd k (den x) 1) (sym (size-neg x.num)) low_x
+apart_of-negation : (x : Fraction) → IsInLowestTerms x → IsInLowestTerms (negation x)
+apart_of-negation x low_x = subst (λ k. IsGcd k (den x) 1) (sym (size-neg x.num)) low_x
 
 -- how far along the objective, which the ray makes better, is better than a number
 record Better (direction : Direction) (a g y : Fraction) : Type 0 where
@@ -320,7 +321,7 @@ better_far Maximize a y r gain =
 better_far Minimize a y r gain =
     let g = low (ratio r) in
     let below = IsBelow_trans_right g r zero_value (low_below r) (below_holds r zero_value gain) in
-    let found = far (negation a) (negation g) (negation y) (IsLow-negation g (lowest-apart r.num (den r) (omega arith))) (IsBelow-negation g zero_value below) in
+    let found = far (negation a) (negation g) (negation y) (apart_of-negation g (lowest-apart r.num (den r) (omega arith))) (IsBelow-negation g zero_value below) in
     let turned_back : negation a ⊕ found.t ⊗ negation g ≡ negation (a ⊕ found.t ⊗ g) =
     ap (λ s. negation a ⊕ s) (exact_product-negation_right found.t g) ∙ sym (negation-sum a (found.t ⊗ g)) in
     record {

@@ -8,7 +8,8 @@ use Rattle.frac128.specs.Order.{IsAtMost}
 use Rattle.frac128.proofs.Field.{lowest-apart}
 use Rattle.model_data.specs.declared.model.Direction.TheVariants.{Minimize}
 use Rattle.dictionary.specs.declared.standard.Std.{Std}
-use Rattle.solve_defs.specs.Columns.{IsColumnsPoint, IsInLowestTerms, KeepsStdRow, exact_point, form_value, model_value}
+use Rattle.solve_defs.specs.Columns.{IsColumnsPoint, KeepsStdRow, exact_point, form_value, model_value}
+use Rattle.frac128.specs.Lowest.{IsInLowestTerms}
 use Rattle.solve_defs.specs.StandardForm.{shapes_of, standard_form}
 use Rattle.solve_defs.proofs.FormLists.{Each, all_from_each}
 use Rattle.solve_defs.proofs.Models.{free_one, minus, number, part}

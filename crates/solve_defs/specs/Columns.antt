@@ -1,8 +1,8 @@
 -- Values of the columns of a standard form, which of them are allowed, and which values of the variables they stand for.
 -- All results are exact, whatever the size of their parts.
-use Rattle.std.specs.Prelude.{◌≡◌, ℕ, suc, ◌+◌, All, List, [], ◌∷◌, length, ℤ, unsigned_abs}
-use Rattle.std.specs.Int.{IsGcd}
-use Rattle.frac128.specs.Fraction.{Fraction, den, exact_difference, exact_product, exact_sum, zero_value}
+use Rattle.std.specs.Prelude.{◌≡◌, ℕ, suc, ◌+◌, All, List, [], ◌∷◌, length, ℤ}
+use Rattle.frac128.specs.Fraction.{Fraction, exact_difference, exact_product, exact_sum, zero_value}
+use Rattle.frac128.specs.Lowest.{IsInLowestTerms}
 use Rattle.frac128.specs.Order.{IsAtMost, IsBelow}
 use Rattle.model_data.specs.declared.model.Direction.{Direction}
 use Rattle.model_data.specs.declared.model.Model.{Model}
@@ -14,9 +14,6 @@ use Rattle.solve_defs.specs.Values.{turned, value_at, whole}
 use Rattle.solve_defs.specs.declared.cut.Cut.{Cut}
 
 -- ---- values of columns
-
-abbrev pub IsInLowestTerms : Fraction → Type 0
-IsInLowestTerms x = IsGcd (unsigned_abs x.num) (den x) 1
 
 -- the sum of each coefficient times its column's value
 abbrev pub columns_sum : List Fraction → List Fraction → Fraction

@@ -1,9 +1,8 @@
 -- A look: a sum that is formed step by step, and what it has to be. A certificate is checked by a list of looks in order.
 use Rattle.std.specs.Prelude.{Bool, true, false, IsTrue, List, [], ◌∷◌, Result, Ok, Err}
-use Rattle.frac128.specs.Checked.{checked_difference, checked_sum, ◌>>=◌}
+use Rattle.frac128.specs.Checked.{checked_difference, checked_sum, less_product, plus_product, ◌>>=◌}
 use Rattle.frac128.specs.Fraction.{Fraction, exact_difference, exact_product, exact_sum}
 use Rattle.frac128.specs.declared.operations.Wide.{Wide}
-use Rattle.dictionary.specs.Dictionary.{less_product, plus_product}
 use Rattle.solve_defs.specs.declared.verdict.Place.{Place}
 use Rattle.solve_defs.specs.declared.verdict.Verdict.{Verdict}
 use Rattle.solve_defs.specs.declared.verdict.Verdict.TheVariants.{Valid, Invalid, TooWide}

@@ -2,7 +2,7 @@
 -- right side. And the ways back: from columns to variables, and from the rows' and columns' weights to those of the model.
 -- What is made of operations ends at the first one that does not fit, in the order in which they stand here.
 use Rattle.std.specs.Prelude.{ℕ, suc, ◌+◌, List, [], ◌∷◌, ◌++◌, length, map, flat_map, sum_by, replicate, slice_index_or, slice_set, Option, Some, None, Result, Ok, if◌then◌else◌}
-use Rattle.frac128.specs.Checked.{checked_difference, checked_sum, ◌>>=◌}
+use Rattle.frac128.specs.Checked.{checked_difference, checked_sum, less_product, plus_product, ◌>>=◌}
 use Rattle.frac128.specs.Fraction.{Fraction, negation, one_value, zero_value}
 use Rattle.frac128.specs.declared.operations.Wide.{Wide}
 use Rattle.model_data.specs.Size.{rows_of_sense}
@@ -14,7 +14,7 @@ use Rattle.model_data.specs.declared.model.Term.{Term}
 use Rattle.model_data.specs.declared.model.Var.{Var}
 use Rattle.model_data.specs.declared.solution.Weight.{Weight}
 use Rattle.model_data.specs.declared.solution.Weights.{Weights}
-use Rattle.dictionary.specs.Dictionary.{each, less_product, numbers_from, plus_product}
+use Rattle.dictionary.specs.Dictionary.{each, numbers_from}
 use Rattle.dictionary.specs.declared.standard.Std.{Std}
 use Rattle.dictionary.specs.declared.standard.StdRow.{StdRow}
 use Rattle.solve_defs.specs.Bounds.{effective_bounds}

@@ -7,15 +7,12 @@ use Rattle.dictionary.specs.Dictionary.{numbers_from}
 use Rattle.model_data.specs.declared.model.Term.{Term}
 use Rattle.solve_defs.specs.StandardForm as defs
 use Rattle.solve_defs.specs.Values.{coefficient, term_of}
-use Rattle.std_form.proofs.Entries.{entries-zeros, length-entries}
+use Rattle.dictionary.proofs.Opened.{length-numbers_from}
+use Rattle.std_form.proofs.Entries.{entries-zeros}
 
 -- by variable, of so many from the first on
 abbrev pub coefficients : List Term → ℕ → ℕ → List Fraction
 coefficients terms first count = map (coefficient terms) (numbers_from first count)
-
-length-numbers_from : (first count : ℕ) → length (numbers_from first count) ≡ count
-length-numbers_from first zero = refl
-length-numbers_from first (suc count) = ap suc (length-numbers_from (suc first) count)
 
 pub length-coefficients : (terms : List Term) (first count : ℕ) → length (coefficients terms first count) ≡ count
 length-coefficients terms first count = length-map (numbers_from first count) (coefficient terms) ∙ length-numbers_from first count
@@ -58,9 +55,6 @@ coefficients-none first (suc count) = ap (λ (xs : List Fraction). zero_value �
 
 pub row_entries-none : (shapes : List defs.Shape) → defs.row_entries shapes [] ≡ replicate (defs.column_count shapes) zero_value
 row_entries-none shapes = ap (defs.entries shapes) (coefficients-none 0 (length shapes)) ∙ entries-zeros shapes
-
-pub length-row_entries : (shapes : List defs.Shape) (terms : List Term) → length (defs.row_entries shapes terms) ≡ defs.column_count shapes
-length-row_entries shapes terms = length-entries shapes (coefficients terms 0 (length shapes)) (length-coefficients terms 0 (length shapes))
 
 pub row_entries-cons : (shapes : List defs.Shape) (t : Term) (terms : List Term)
     → defs.row_entries shapes (t ∷ terms) ≡ defs.entries shapes (slice_set (coefficients terms 0 (length shapes)) t.var t.coef)

@@ -59,10 +59,6 @@ bounds_from-cut vars cuts i e d among within =
     ap (bounds_from 0 vars) (take_more cuts i e among)
     ∙ bounds_from-more 0 vars (take i cuts) (slice_index_or cuts i e) (slice_index_or cuts i e).var d (omega arith) within
 
-pub length-bounds_from : (first : ℕ) (vars : List Var) (cuts : List Cut) → length (bounds_from first vars cuts) ≡ length vars
-length-bounds_from first [] cuts = refl
-length-bounds_from first (v ∷ vars) cuts = ap suc (length-bounds_from (suc first) vars cuts)
-
 pub bounds_from-none : (first : ℕ) (vars : List Var) → bounds_from first vars [] ≡ map own_bounds vars
 bounds_from-none first [] = refl
 bounds_from-none first (v ∷ vars) = ap (λ (bs : List Bounds). own_bounds v ∷ bs) (bounds_from-none (suc first) vars)

@@ -8,22 +8,12 @@ use Rattle.model_data.specs.declared.model.Var.{Var}
 use Rattle.solve_defs.specs.StandardForm as defs
 use Rattle.solve_defs.specs.Values.{turned}
 use Rattle.std_form.specs.Shapes.{with_entries}
-use Rattle.std_form.proofs.Places.{column_count-cons}
+use Rattle.solve_defs.proofs.FormSizes.{column_count-cons}
 
 length-entries_of : (shape : defs.Shape) (x : Fraction) → length (defs.entries_of shape x) ≡ defs.width shape
 length-entries_of (defs.shifted lower upper) x = refl
 length-entries_of (defs.mirrored upper) x = refl
 length-entries_of defs.free x = refl
-
-pub length-entries : (shapes : List defs.Shape) (xs : List Fraction) → length xs ≡ length shapes → length (defs.entries shapes xs) ≡ defs.column_count shapes
-length-entries [] xs sizes = refl
-length-entries (shape ∷ shapes) [] sizes = absurd (omega (arith, sizes))
-length-entries (shape ∷ shapes) (x ∷ xs) sizes =
-    let rest = length-entries shapes xs (omega (arith, sizes)) in
-    let own = length-entries_of shape x in
-    let more = column_count-cons shape shapes in
-    let both = length-append (defs.entries_of shape x) (defs.entries shapes xs) in
-    omega (arith, rest, own, more, both)
 
 -- ---- where all are 0
 

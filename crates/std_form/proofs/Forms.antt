@@ -1,6 +1,5 @@
 -- A standard form from its parts.
 use Rattle.std.proofs.Common.{◌≡◌, ◌∙◌, sym, ap, ap₂, List, [], ◌++◌, length, map, Result, Ok, Err}
-use Rattle.std.proofs.lemmas.List.{length-map}
 use Rattle.std.specs.List.{flat_map}
 use Rattle.frac128.specs.Checked.{◌>>=◌}
 use Rattle.frac128.specs.Fraction.{Fraction}
@@ -9,13 +8,12 @@ use Rattle.dictionary.specs.Dictionary.{each}
 use Rattle.dictionary.specs.declared.standard.Std.{Std}
 use Rattle.dictionary.specs.declared.standard.StdRow.{StdRow}
 use Rattle.model_data.specs.declared.model.Model.{Model}
-use Rattle.solve_defs.specs.Bounds.{Bounds, effective_bounds}
 use Rattle.solve_defs.specs.StandardForm as defs
 use Rattle.solve_defs.specs.StandardForm.{standard_form}
 use Rattle.solve_defs.specs.Values.{turned}
 use Rattle.solve_defs.specs.declared.cut.Cut.{Cut}
 use Rattle.std_form.specs.Outcome.{behind, joined}
-use Rattle.std_form.proofs.CutBounds.{length-bounds_from}
+use Rattle.solve_defs.proofs.FormSizes.{length-shapes_of}
 
 -- ---- the parts
 
@@ -46,9 +44,7 @@ unfolding standard_form
 standard_form-with m cuts shapes are = ap (form_with m) (sym are)
 
 pub as_many : (m : Model) (cuts : List Cut) (shapes : List defs.Shape) → shapes ≡ defs.shapes_of m cuts → length m.vars ≡ length shapes
-as_many m cuts shapes are =
-    sym (length-bounds_from 0 m.vars cuts)
-    ∙ sym (length-map (effective_bounds m cuts) (λ (b : Bounds). defs.shape_between b.lower b.upper)) ∙ ap length (sym are)
+as_many m cuts shapes are = length-shapes_of m cuts ∙ ap length (sym are)
 
 -- ---- where all are made
 

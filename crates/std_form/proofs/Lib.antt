@@ -5,5 +5,4 @@ pub mod Exits
 pub mod Forms
 pub mod Places
 pub mod Steps
-pub mod Uniform
 pub mod Whole

@@ -1,14 +1,12 @@
 -- Where variables stand among the columns.
 use Rattle.std.proofs.Common.{◌≡◌, ◌∙◌, sym, ap, ℕ, zero, suc, ◌+◌, ◌<◌, ◌≤◌, List, [], ◌∷◌, ◌++◌, length, take, get_or, arith}
 use Rattle.std.proofs.lemmas.List.{get_or-map, length-map}
-use Rattle.std.proofs.lemmas.List.Sums.{sum_by-cons, sum_by_more_le}
+use Rattle.std.proofs.lemmas.List.Sums.{sum_by_more_le}
 use Rattle.solve_defs.specs.StandardForm as defs
 use Rattle.std_form.specs.Columns.{AreInOrder, shapes_in}
 use Rattle.std_form.specs.Shapes.{shape_of}
 use Rattle.std_form.specs.declared.columns.Placed.{Placed}
-
-pub column_count-cons : (shape : defs.Shape) (shapes : List defs.Shape) → defs.column_count (shape ∷ shapes) ≡ defs.width shape + defs.column_count shapes
-column_count-cons shape shapes = sum_by-cons defs.width shape shapes
+use Rattle.solve_defs.proofs.FormSizes.{column_count-cons}
 
 -- the end of the last variable's columns
 pub in_order-count : (column : ℕ) (placed : List Placed) (count : ℕ) → AreInOrder column placed count → count ≡ column + defs.column_count (shapes_in placed)
@@ -53,8 +51,3 @@ stands shapes placed count place p are in_order within here =
     let end = sum_by_more_le defs.width shapes place defs.free (omega (arith, sizes, within)) in
     let width = ap defs.width (own defs.free) in
     record { within = omega (arith, sizes, within); shape = own; column = first; ends = omega (arith, first, end, width) }
-
-pub width_le : (shape : defs.Shape) → defs.width shape ≤ 2
-width_le (defs.shifted lower upper) = omega arith
-width_le (defs.mirrored upper) = omega arith
-width_le defs.free = omega arith

@@ -1,7 +1,8 @@
 use Rattle.std.proofs.Common.{◌≡◌, ◌∙◌, sym, ap, ap₂, length, take, slice_index_or, slice_set, None, rules}
 use Rattle.solve_defs.specs.Bounds.{both, cut_bounds}
 use Rattle.solve_defs.specs.declared.cut.Cut.{Cut}
-use Rattle.std_form.proofs.CutBounds.{bounds_from-cut, bounds_from-none, length-bounds_from, tightened}
+use Rattle.std_form.proofs.CutBounds.{bounds_from-cut, bounds_from-none, tightened}
+use Rattle.solve_defs.proofs.Relaxed.{length-bounds_from}
 use Rattle.std_form.proofs.bounds.effective_bounds.Goals as goal
 
 abbrev no_cut : Cut

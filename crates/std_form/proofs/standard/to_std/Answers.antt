@@ -6,7 +6,8 @@ use Rattle.solve_defs.specs.Values.{turned}
 use Rattle.std_form.specs.Outcome.{Meets, behind, joined}
 use Rattle.std_form.proofs.Exits.{told_fault}
 use Rattle.std_form.proofs.Forms.{all_spans, as_many, form_made, form_without_constant, form_without_rows, form_without_spans, row_parts, standard_form-with}
-use Rattle.std_form.proofs.Uniform.{form-columns, form-uniform}
+use Rattle.solve_defs.proofs.FormSizes.{form-columns}
+use Rattle.solve_defs.proofs.FormSizes.{form-uniform}
 use Rattle.std_form.proofs.standard.to_std.Goals as goal
 
 pub returns-in_err-push_rows-clause-fault : goal.returns-in_err-push_rows-clause-fault

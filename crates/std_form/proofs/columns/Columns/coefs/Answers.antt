@@ -4,7 +4,8 @@ use Rattle.std.specs.Iterator.Adapters.{rev_source}
 use Rattle.std.specs.Slice.Iter.{iter_rest}
 use Rattle.model_data.specs.declared.model.Term.{Term}
 use Rattle.solve_defs.specs.StandardForm.{row_entries}
-use Rattle.std_form.proofs.Coefficients.{coefficients, length-coefficients, length-row_entries, row_entries-cons, row_entries-none}
+use Rattle.std_form.proofs.Coefficients.{coefficients, length-coefficients, row_entries-cons, row_entries-none}
+use Rattle.solve_defs.proofs.FormSizes.{length-row_entries}
 use Rattle.std_form.proofs.columns.Columns.coefs.Goals as goal
 
 pub loop-term-init : goal.loop-term-init

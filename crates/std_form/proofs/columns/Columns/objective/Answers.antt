@@ -4,7 +4,8 @@ use Rattle.frac128.specs.Fraction.{zero_value}
 use Rattle.model_data.specs.declared.model.Var.{Var}
 use Rattle.solve_defs.specs.StandardForm.{entries}
 use Rattle.solve_defs.specs.Values.{turned}
-use Rattle.std_form.proofs.Entries.{entries-zeros, filled, filled-end, filled-step, length-entries, length-filled}
+use Rattle.std_form.proofs.Entries.{entries-zeros, filled, filled-end, filled-step, length-filled}
+use Rattle.solve_defs.proofs.FormValues.{length-entries}
 use Rattle.std_form.proofs.columns.Columns.objective.Goals as goal
 
 pub loop-place-init : goal.loop-place-init

@@ -5,7 +5,8 @@ use Rattle.solve_defs.specs.StandardForm.{Shape, shape_between, width}
 use Rattle.std_form.specs.Columns.{AreInOrder, shapes_in}
 use Rattle.std_form.specs.Shapes.{shape_of}
 use Rattle.std_form.specs.declared.columns.Placed.{Placed}
-use Rattle.std_form.proofs.Places.{in_order-push, width_le}
+use Rattle.std_form.proofs.Places.{in_order-push}
+use Rattle.solve_defs.proofs.FormSizes.{width_le}
 use Rattle.std_form.proofs.columns.Columns.of.Goals as goal
 
 pub loop-own-preserved : goal.loop-own-preserved
