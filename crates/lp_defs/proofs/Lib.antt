@@ -16,7 +16,7 @@ mod Rest
 mod Sight
 pub mod Sound
 pub mod SoundNumbers
-pub mod SoundRows
+mod SoundRows
 pub mod SoundText
 pub mod SoundTokens
 mod Spelled
@@ -28,7 +28,7 @@ pub mod Words
 mod Worked
 mod Writable
 mod WrittenLines
-pub mod WrittenModel
+mod WrittenModel
 mod WrittenNumbers
 mod WrittenObjective
 mod WrittenPieces

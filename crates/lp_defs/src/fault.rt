@@ -1,5 +1,4 @@
 //! Why a text is no model's.
-
 ghost use Rattle.std.specs.Prelude.{Some};
 ghost use Rattle.lp_defs.specs.FaultText.{placed_text};
 

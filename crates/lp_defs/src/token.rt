@@ -1,5 +1,4 @@
 //! Tokens of a model's text, and where they stand.
-
 ghost use Rattle.std.specs.Prelude.{Some};
 ghost use Rattle.lp_defs.specs.FaultText.{placed_text};
 
