@@ -1,1 +1,5 @@
+pub mod ImageSteps
+pub mod MemoryCalls
+pub mod Moments
 pub mod Overwriting
+pub mod Walks

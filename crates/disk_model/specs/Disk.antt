@@ -1,5 +1,5 @@
 -- What one call does to what a read gives, and to what a crash may leave.
-use Rattle.std.specs.Prelude.{ℕ, ◌+◌, ◌≤◌, ◌≡◌, ◌⊎◌, max, List, ◌++◌, length, take, drop, Option, None, Some, IfSome, IsSomeAnd}
+use Rattle.std.specs.Prelude.{ℕ, ◌+◌, ◌≤◌, ◌≡◌, max, List, ◌++◌, length, take, drop, Option, None, Some, IfSome, IsSomeAnd}
 use Rattle.disk_model.specs.declared.answer.DiskLen.{DiskLen}
 use Rattle.disk_model.specs.declared.answer.DiskLen.TheVariants.{Len, Failed}
 
@@ -37,13 +37,10 @@ Same old new = new ≡ old
 abbrev pub Follows : (List ℕ → List ℕ → Type 0) → (List ℕ → Type 0) → (List ℕ → Type 0) → Type 0
 Follows step old new = (image : List ℕ) → new image → (before : List ℕ) × old before × step before image
 
+-- one of these, which such a write was made to and maybe cut short
+abbrev pub TornFrom : (at n : ℕ) → (List ℕ → Type 0) → List ℕ → Type 0
+TornFrom at n older image = (before : List ℕ) × older before × Torn at n before image
+
 -- a crash leaves this and nothing else
 abbrev pub Only : List ℕ → (List ℕ → Type 0) → Type 0
-Only bytes may_leave = (image : List ℕ) → may_leave image → image ≡ bytes
-
--- Time goes on: since a mark up to the call a crash might have left what it might have left before the
--- call, or what it may leave now.
-pub record Elapses (before now : ℕ) (past since : ℕ → List ℕ → Type 0) (may_leave : List ℕ → Type 0) : Type 0 where
-  pub later : before ≤ now
-  pub nothing_else : (mark : ℕ) (image : List ℕ) → mark ≤ before → since mark image → past mark image ⊎ may_leave image
-  pub keeps : (mark : ℕ) (image : List ℕ) → mark ≤ before → past mark image → since mark image
+Only bytes left = (image : List ℕ) → left image → image ≡ bytes

@@ -1,3 +1,6 @@
 pub mod Calls
 pub mod Disk
+pub mod ImageLaws
+pub mod Images
 pub mod Memory
+pub mod Moments

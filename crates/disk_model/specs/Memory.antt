@@ -1,20 +1,29 @@
--- A disk in memory: what it is seen as, and what each call does.
-use Rattle.std.specs.Prelude.{ℕ, ◌+◌, ◌-◌, ◌^◌, min, ◌≡◌, List}
-use Rattle.disk_model.specs.Disk.{overwritten}
+-- What a disk in memory tells of its images and its calls.
+use Rattle.std.specs.Prelude.{ℕ, List, length, None}
+use Rattle.base_names.specs.Outside.{one_more}
+use Rattle.disk_model.specs.Calls.{DiskCall}
+use Rattle.disk_model.specs.Disk.{Follows}
+use Rattle.disk_model.specs.Images.{left_at}
+use Rattle.disk_model.specs.Moments.{Called}
 use Rattle.disk_model.specs.declared.answer.DiskDone.{DiskDone}
 use Rattle.disk_model.specs.declared.answer.DiskDone.TheVariants.{Done, Failed}
+use Rattle.disk_model.specs.declared.memory_disk.MemDisk.{MemDisk}
 
--- what a read gives, how many calls failed, and how many of these because a growth found no memory
-pub record MemoryState : Type 0 where
-  pub bytes : List ℕ
-  pub faults : ℕ
-  pub refused : ℕ
+abbrev pub moment_of : MemDisk → ℕ
+moment_of disk = length disk.past.items
 
--- one more, in a count that stays at the end of its type
-abbrev pub one_more : ℕ → ℕ
-one_more count = min (count + 1) (2 ^ 64 - 1)
+abbrev pub left_of : MemDisk → ℕ → List ℕ → Type 0
+left_of disk moment image = left_at disk.past.items disk.bytes.items moment image
 
--- A write, by its answer. It fails exactly where the growth was refused, and then it changes no byte.
-abbrev pub Writes : DiskDone → (at : ℕ) (bytes : List ℕ) → MemoryState → MemoryState → Type 0
-Writes Done at bytes old new = new ≡ record old { bytes = overwritten at bytes old.bytes }
-Writes Failed at bytes old new = new ≡ record old { faults = one_more old.faults; refused = one_more old.refused }
+-- each image that a crash may leave now is one of before, after a step
+abbrev pub ImagesFollow : (List ℕ → List ℕ → Type 0) → (old new : MemDisk) → Type 0
+ImagesFollow step old new = Follows step (left_of old (moment_of old)) (left_of new (moment_of new))
+
+-- what each call does in time; the list of calls isn't told
+abbrev pub CalledInMemory : (old new : MemDisk) → DiskCall → Type 0
+CalledInMemory old new made = Called (λ _. 0) moment_of left_of (λ _. None) (λ disk. disk.faults) old new made
+
+-- how many calls failed for want of memory, by the answer of one more
+abbrev pub refused_after : DiskDone → ℕ → ℕ
+refused_after Done refused = refused
+refused_after Failed refused = one_more refused

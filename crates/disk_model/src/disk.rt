@@ -1,10 +1,10 @@
 //! What is asked of a disk.
 
-ghost use Rattle.std.specs.Prelude.{◌≡◌, ◌≤◌, ◌+◌, ℕ, List, Bool, true, Option, Some, IfSome, length};
+ghost use Rattle.std.specs.Prelude.{◌≡◌, ◌≤◌, ◌+◌, ℕ, List, Option, Some, IfSome, IsSomeAnd, length};
 ghost use Rattle.std.specs.Option.{option_map};
-ghost use Rattle.base_names.specs.Outside.{Rose};
-ghost use Rattle.disk_model.specs.Calls.{DiskCall, LenCall, ReadCall, WriteCall, SyncCall, AddsCall};
-ghost use Rattle.disk_model.specs.Disk.{IsLength, IsPart, overwritten, TearsSeen, Torn, Same, Follows, Elapses, Only};
+ghost use Rattle.disk_model.specs.Calls.{DiskCall, LenCall, ReadCall, WriteCall, SyncCall};
+ghost use Rattle.disk_model.specs.Disk.{IsLength, IsPart, overwritten, TearsSeen, Torn, Same, Follows, Only};
+ghost use Rattle.disk_model.specs.Moments.{Called};
 
 use crate::answer::{DiskDone, DiskLen};
 
@@ -19,15 +19,12 @@ pub trait Disk {
     // What a read gives, where it is told.
     ghost seen: { Self → Option (List ℕ) };
 
-    // Whether the images are told: what a crash now may leave, and what a crash at some moment from a
-    // mark on might have left. The moment never falls.
-    ghost tells_images: { Self → Bool };
-
-    ghost may_leave: { Self → List ℕ → Type 0 };
-
+    // The moment, which is one more after each call.
     ghost moment: { Self → ℕ };
 
-    ghost left_since: { Self → ℕ → List ℕ → Type 0 };
+    // What a crash at a moment up to now might have left: these images and no others. A disk tells them
+    // where it tells what a read gives, and no image where it doesn't.
+    ghost left: { Self → ℕ → List ℕ → Type 0 };
 
     // The calls so far, where they are told.
     ghost calls: { Self → Option (List DiskCall) };
@@ -37,72 +34,44 @@ pub trait Disk {
 
     /// The length of the file.
     fn len(&mut self) -> DiskLen
-        ensures same { name self.new ≡ name self.old }
         ensures len { IsLength result (seen self.old) }
         ensures seen { seen self.new ≡ seen self.old }
-        ensures crash { tells_images self.new ≡ true → (tells_images self.old ≡ true)
-            × Follows Same (may_leave self.old) (may_leave self.new) }
-        ensures time { tells_images self.new ≡ true →
-            Elapses (moment self.old) (moment self.new) (left_since self.old) (left_since self.new) (may_leave self.new) }
-        ensures call { AddsCall (calls self.old) (calls self.new) (LenCall result) }
-        ensures later { faults self.old ≤ faults self.new }
-        ensures failed { result ≡ DiskLen.Failed → Rose (faults self.old) (faults self.new) };
+        ensures images { Follows Same (left self.old (moment self.old)) (left self.new (moment self.new)) }
+        ensures called { Called name moment left calls faults self.old self.new (LenCall result) };
 
     /// Fills the buffer from this place on. The range lies in the file.
     fn read(&mut self, at: u64, buf: &mut [u8]) -> DiskDone
         requires { IfSome (seen self.old) (λ bytes. at + length buf.old ≤ length bytes) }
-        ensures same { name self.new ≡ name self.old }
         ensures bytes { result ≡ DiskDone.Done → IfSome (seen self.old) (IsPart at buf.new) }
         ensures seen { seen self.new ≡ seen self.old }
-        ensures crash { tells_images self.new ≡ true → (tells_images self.old ≡ true)
-            × Follows Same (may_leave self.old) (may_leave self.new) }
-        ensures time { tells_images self.new ≡ true →
-            Elapses (moment self.old) (moment self.new) (left_since self.old) (left_since self.new) (may_leave self.new) }
-        ensures call { AddsCall (calls self.old) (calls self.new) (ReadCall at (length buf.old) result) }
-        ensures later { faults self.old ≤ faults self.new }
-        ensures failed { result ≡ DiskDone.Failed → Rose (faults self.old) (faults self.new) };
+        ensures images { Follows Same (left self.old (moment self.old)) (left self.new (moment self.new)) }
+        ensures called { Called name moment left calls faults self.old self.new (ReadCall at (length buf.old) result) };
 
     /// Writes the bytes from this place on, which is at most the file's length. The file grows where
     /// they pass its end. A write that fails may leave any bytes in its range.
     fn write_at(&mut self, at: u64, bytes: &[u8]) -> DiskDone
         requires { IfSome (seen self.old) (λ old. at ≤ length old) }
-        ensures same { name self.new ≡ name self.old }
         ensures written { result ≡ DiskDone.Done → seen self.new ≡ option_map (overwritten at bytes.now) (seen self.old) }
         ensures torn { TearsSeen at (length bytes.now) (seen self.old) (seen self.new) }
-        ensures crash { tells_images self.new ≡ true → (tells_images self.old ≡ true)
-            × Follows (Torn at (length bytes.now)) (may_leave self.old) (may_leave self.new) }
-        ensures time { tells_images self.new ≡ true →
-            Elapses (moment self.old) (moment self.new) (left_since self.old) (left_since self.new) (may_leave self.new) }
-        ensures call { AddsCall (calls self.old) (calls self.new) (WriteCall at bytes.now result) }
-        ensures later { faults self.old ≤ faults self.new }
-        ensures failed { result ≡ DiskDone.Failed → Rose (faults self.old) (faults self.new) };
+        ensures images { Follows (Torn at (length bytes.now)) (left self.old (moment self.old)) (left self.new (moment self.new)) }
+        ensures called { Called name moment left calls faults self.old self.new (WriteCall at bytes.now result) };
 
     /// After `Done` a crash leaves what a read gives. A sync that fails syncs nothing.
     fn sync(&mut self) -> DiskDone
-        ensures same { name self.new ≡ name self.old }
         ensures seen { seen self.new ≡ seen self.old }
-        ensures durable { result ≡ DiskDone.Done → tells_images self.new ≡ true →
-            IfSome (seen self.old) (λ bytes. Only bytes (may_leave self.new)) }
-        ensures crash { tells_images self.new ≡ true → (tells_images self.old ≡ true)
-            × Follows Same (may_leave self.old) (may_leave self.new) }
-        ensures time { tells_images self.new ≡ true →
-            Elapses (moment self.old) (moment self.new) (left_since self.old) (left_since self.new) (may_leave self.new) }
-        ensures call { AddsCall (calls self.old) (calls self.new) (SyncCall result) }
-        ensures later { faults self.old ≤ faults self.new }
-        ensures failed { result ≡ DiskDone.Failed → Rose (faults self.old) (faults self.new) };
+        ensures durable { result ≡ DiskDone.Done → IfSome (seen self.old) (λ bytes. Only bytes (left self.new (moment self.new))) }
+        ensures images { Follows Same (left self.old (moment self.old)) (left self.new (moment self.new)) }
+        ensures called { Called name moment left calls faults self.old self.new (SyncCall result) };
 
     /// How often a call has failed.
     fn fault_count(&self) -> u64
         ensures { result ≡ faults self.now };
 
-    // What a crash now may leave it might have left since any mark up to now.
-    ghost counts_now: { (disk : Self) (mark : ℕ) (image : List ℕ) → tells_images disk ≡ true → mark ≤ moment disk → may_leave disk image → left_since disk mark image };
-
-    // Since this moment nothing else.
-    ghost only_now: { (disk : Self) (image : List ℕ) → tells_images disk ≡ true → left_since disk (moment disk) image → may_leave disk image };
-
     // What a read gives is among the images.
-    ghost reads_an_image: { (disk : Self) (image : List ℕ) → tells_images disk ≡ true → seen disk ≡ Some image → may_leave disk image };
+    ghost reads_an_image: { (disk : Self) (image : List ℕ) → seen disk ≡ Some image → left disk (moment disk) image };
+
+    // A disk that tells an image tells what a read gives.
+    ghost tells_seen: { (disk : Self) (image : List ℕ) → left disk (moment disk) image → IsSomeAnd (seen disk) (λ _. Unit {0}) };
 }
 
 impl<D: Disk> Disk for &mut D {
@@ -110,23 +79,17 @@ impl<D: Disk> Disk for &mut D {
 
     ghost seen = { λ d. D.seen d.now };
 
-    ghost tells_images = { λ d. D.tells_images d.now };
-
-    ghost may_leave = { λ d image. D.may_leave d.now image };
-
     ghost moment = { λ d. D.moment d.now };
 
-    ghost left_since = { λ d mark image. D.left_since d.now mark image };
+    ghost left = { λ d moment image. D.left d.now moment image };
 
     ghost calls = { λ d. D.calls d.now };
 
     ghost faults = { λ d. D.faults d.now };
 
-    ghost counts_now = { λ d mark image tells past now. D.counts_now d.now mark image tells past now };
+    ghost reads_an_image = { λ d image seen. D.reads_an_image d.now image seen };
 
-    ghost only_now = { λ d image tells since. D.only_now d.now image tells since };
-
-    ghost reads_an_image = { λ d image tells seen. D.reads_an_image d.now image tells seen };
+    ghost tells_seen = { λ d image left. D.tells_seen d.now image left };
 
     fn len(&mut self) -> DiskLen {
         D::len(&mut **self)

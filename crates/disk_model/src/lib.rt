@@ -1,16 +1,20 @@
 //! A disk, and a disk in memory.
 //!
 //! - [`Disk`]: one file that is read, written and synced. What a read gives, which images a crash may
-//!   leave, now or at any moment since a mark, and which calls there were, is told in contracts where it
-//!   is known. A disk has a count of faults, and answers `Failed` only where this count rose.
-//! - [`MemDisk`]: in memory. It tells what a read gives.
+//!   leave at each moment, and which calls there were, is told in contracts where it is known. A disk has a
+//!   count of faults, which rises at each call that is answered `Failed`, and at no other.
+//! - [`MemDisk`]: in memory. It tells what a read gives, and all images.
 //!
-//! `specs/Disk.antt` says what one call does to what is seen and to the images, `specs/Calls.antt` what
-//! the list of calls is, and `specs/Memory.antt` what a disk in memory is seen as.
+//! `specs/Disk.antt` says what one call does to what is seen and to the images, `specs/Moments.antt` what it does in
+//! time, with `LeavesOnly`, that a crash at any moment of several calls leaves only images of a kind;
+//! `proofs/Moments.antt` has the laws of that, for crates above. `specs/Calls.antt` says what the list of calls
+//! is, and `specs/Images.antt` and `specs/Memory.antt` what a disk in memory tells.
 #![tactic(auto)]
 
 mod answer;
 mod disk;
+mod effect;
+mod history;
 mod memory_disk;
 
 pub use answer::{DiskDone, DiskLen};

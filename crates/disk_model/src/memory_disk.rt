@@ -1,41 +1,40 @@
 //! A disk in memory.
 
-ghost use Rattle.std.specs.Prelude.{◌≡◌, ◌≤◌, ◌+◌, List, [], Bool, false, Option, None, Some, length, take, drop};
-ghost use Rattle.base_names.specs.Outside.{Rose};
-ghost use Rattle.disk_model.specs.Disk.{Torn, overwritten};
-ghost use Rattle.disk_model.specs.Memory.{MemoryState, Writes};
+ghost use Rattle.std.specs.Prelude.{◌≡◌, ◌≤◌, ◌+◌, [], ◌∷◌, ◌++◌, Some, OnOk, OnErr, length, take, drop};
+ghost use Rattle.disk_model.specs.Calls.{LenCall, ReadCall, WriteCall, SyncCall};
+ghost use Rattle.disk_model.specs.Disk.{Torn, Same, Only, overwritten};
+ghost use Rattle.disk_model.specs.Memory.{moment_of, left_of, ImagesFollow, CalledInMemory, refused_after};
 
 use crate::answer::{DiskDone, DiskLen};
 use crate::disk::Disk;
+use crate::effect::Effect;
+use crate::history::History;
+use base_names::NoMemory;
 use std::alloc::Global;
-use std::marker::Model;
 
-/// A file in memory. It tells what a read gives, and neither images nor calls. A call fails exactly where
-/// a growth finds no memory.
-#[derive(Debug, Drop)]
+/// A file in memory. It tells what a read gives, and all images. A call fails exactly where a growth finds
+/// no memory.
+#[derive(Drop)]
 pub struct MemDisk {
     bytes: Vec<u8>,
     faults: u64,
     refused: u64,
-}
-
-impl Model for MemDisk {
-    ghost use Rattle.disk_model.specs.Memory.{MemoryState};
-
-    ghost Value = { MemoryState };
-
-    ghost view = { λ d. record { bytes = d.bytes.items; faults = d.faults; refused = d.refused } };
+    /// What a read gave before each call, and what the call did.
+    past: History<Vec<u8>, Effect>,
 }
 
 impl MemDisk {
     /// An empty file. Nothing is allocated.
     pub fn new(alloc: Global) -> MemDisk
-        ensures { result ≡ record { bytes = []; faults = 0; refused = 0 } }
+        ensures bytes { result.bytes.items ≡ [] }
+        ensures faults { (result.faults ≡ 0) × (result.refused ≡ 0) }
+        ensures past { result.past.items ≡ [] }
     {
         MemDisk {
             bytes: Vec::new(alloc),
             faults: 0,
             refused: 0,
+            past: History::new(),
         }
     }
 
@@ -45,78 +44,113 @@ impl MemDisk {
     {
         self.refused
     }
+
+    /// A call begins.
+    fn begin(&mut self, effect: Effect)
+        ensures past { self.new.past.items ≡ self.old.past.items ++ (self.old.bytes, effect) ∷ [] }
+        ensures rest { (self.new.bytes ≡ self.old.bytes) × (self.new.faults ≡ self.old.faults) × (self.new.refused ≡ self.old.refused) }
+    {
+        self.past = self.past.and(&self.bytes, &effect);
+    }
+
+    /// A growth found no memory.
+    fn refuse(&mut self) -> DiskDone
+        ensures failed { result ≡ DiskDone.Failed }
+        ensures counts { (self.new.faults ≡ refused_after DiskDone.Failed self.old.faults) × (self.new.refused ≡ refused_after DiskDone.Failed self.old.refused) }
+        ensures rest { (self.new.bytes ≡ self.old.bytes) × (self.new.past.items ≡ self.old.past.items) }
+        ensures later { self.old.faults ≤ self.new.faults }
+    {
+        self.faults = self.faults.saturating_add(1);
+        self.refused = self.refused.saturating_add(1);
+        DiskDone::Failed
+    }
 }
 
 impl Disk for MemDisk {
-    ghost use Rattle.std.specs.Prelude.{Some, None, false};
+    ghost use Rattle.std.specs.Prelude.{Some, None};
+    ghost use Rattle.disk_model.specs.ImageLaws.{left_seen};
 
     ghost name = { λ _. 0 };
 
-    ghost seen = { λ d. Some d.bytes };
+    ghost seen = { λ d. Some d.bytes.items };
 
-    ghost tells_images = { λ _. false };
+    ghost moment = { moment_of };
 
-    ghost may_leave = { λ _ _. Unit {0} };
-
-    ghost moment = { λ _. 0 };
-
-    ghost left_since = { λ _ _ _. Unit {0} };
+    ghost left = { left_of };
 
     ghost calls = { λ _. None };
 
     ghost faults = { λ d. d.faults };
 
-    ghost counts_now = { λ _ _ _ _ _ _. tt };
+    ghost reads_an_image = { λ d image seen. left_seen d.past.items d.bytes.items image seen };
 
-    ghost only_now = { λ _ _ _ _. tt };
-
-    ghost reads_an_image = { λ _ _ _ _. tt };
+    ghost tells_seen = { λ d image left. tt };
 
     fn len(&mut self) -> DiskLen
-        ensures len { result ≡ DiskLen.Len (length self.old.bytes) }
-        ensures unchanged { self.new ≡ self.old }
+        ensures len { result ≡ DiskLen.Len (length self.old.bytes.items) }
+        ensures seen { self.new.bytes ≡ self.old.bytes }
+        ensures images { ImagesFollow Same self.old self.new }
+        ensures called { CalledInMemory self.old self.new (LenCall result) }
     {
+        self.begin(Effect::Still);
         DiskLen::Len(self.bytes.len() as u64)
     }
 
     fn read(&mut self, at: u64, buf: &mut [u8]) -> DiskDone
-        requires { at + length buf.old ≤ length self.old.bytes }
+        requires { at + length buf.old ≤ length self.old.bytes.items }
         ensures done { result ≡ DiskDone.Done }
-        ensures bytes { buf.new ≡ take (length buf.old) (drop at self.old.bytes) }
-        ensures unchanged { self.new ≡ self.old }
+        ensures bytes { buf.new ≡ take (length buf.old) (drop at self.old.bytes.items) }
+        ensures seen { self.new.bytes ≡ self.old.bytes }
+        ensures images { ImagesFollow Same self.old self.new }
+        ensures called { CalledInMemory self.old self.new (ReadCall at (length buf.old) result) }
     {
+        self.begin(Effect::Still);
         let at = at as usize;
         buf.copy_from_slice(&self.bytes[at..at + buf.len()]);
         DiskDone::Done
     }
 
     fn write_at(&mut self, at: u64, bytes: &[u8]) -> DiskDone
-        requires { at ≤ length self.old.bytes }
-        ensures exact { Writes result at bytes.now self.old self.new }
-        ensures torn { Torn at (length bytes.now) self.old.bytes self.new.bytes }
-        ensures later { self.old.faults ≤ self.new.faults }
-        ensures failed { result ≡ DiskDone.Failed → Rose self.old.faults self.new.faults }
+        requires { at ≤ length self.old.bytes.items }
+        ensures written { result ≡ DiskDone.Done → self.new.bytes.items ≡ overwritten at bytes.now self.old.bytes.items }
+        ensures unwritten { result ≡ DiskDone.Failed → self.new.bytes.items ≡ self.old.bytes.items }
+        ensures torn { Torn at (length bytes.now) self.old.bytes.items self.new.bytes.items }
+        ensures images { ImagesFollow (Torn at (length bytes.now)) self.old self.new }
+        ensures called { CalledInMemory self.old self.new (WriteCall at bytes.now result) }
+        ensures refused { self.new.refused ≡ refused_after result self.old.refused }
     {
-        let at = at as usize;
-        let inside = bytes.len().min(self.bytes.len() - at);
-        let (over, behind) = bytes.split_at(inside);
-        if self.bytes.extend_from_slice(behind).is_err() {
-            self.faults = self.faults.saturating_add(1);
-            self.refused = self.refused.saturating_add(1);
-            return DiskDone::Failed;
+        self.begin(Effect::Write(at, bytes.len() as u64));
+        match overwrite(&mut self.bytes, at as usize, bytes) {
+            Ok(()) => DiskDone::Done,
+            Err(NoMemory) => self.refuse(),
         }
-        self.bytes[at..at + inside].copy_from_slice(over);
-        DiskDone::Done
     }
 
     fn sync(&mut self) -> DiskDone
         ensures done { result ≡ DiskDone.Done }
-        ensures unchanged { self.new ≡ self.old }
+        ensures seen { self.new.bytes ≡ self.old.bytes }
+        ensures durable { Only self.old.bytes.items (left_of self.new (moment_of self.new)) }
+        ensures images { ImagesFollow Same self.old self.new }
+        ensures called { CalledInMemory self.old self.new (SyncCall result) }
     {
+        self.begin(Effect::Sync);
         DiskDone::Done
     }
 
     fn fault_count(&self) -> u64 {
         self.faults
     }
+}
+
+/// Writes over what is there from this place on, and past the end.
+fn overwrite(bytes: &mut Vec<u8>, at: usize, over: &[u8]) -> Result<(), NoMemory>
+    requires { at ≤ length bytes.old.items }
+    ensures ok { OnOk result (bytes.new.items ≡ overwritten at over.now bytes.old.items) }
+    ensures err { OnErr result (bytes.new.items ≡ bytes.old.items) }
+{
+    let inside = over.len().min(bytes.len() - at);
+    let (front, behind) = over.split_at(inside);
+    bytes.extend_from_slice(behind)?;
+    bytes[at..at + inside].copy_from_slice(front);
+    Ok(())
 }
