@@ -18,6 +18,3 @@ mod tableaus;
 pub use dense::Dict;
 pub use standard::{Std, StdRow};
 pub use tableaus::Tableau;
-
-#[cfg(test)]
-mod tests;

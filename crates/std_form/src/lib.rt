@@ -18,6 +18,3 @@ pub use fault::StdFault;
 pub use point::point_back;
 pub use solve_defs::Cut;
 pub use standard::to_std;
-
-#[cfg(test)]
-mod tests;

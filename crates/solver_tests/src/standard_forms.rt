@@ -3,81 +3,39 @@ ghost use Rattle.std.specs.Prelude.{◌≡◌, All, IfOk, IfSome, IsTrue, length
 ghost use Rattle.solve_defs.specs.StandardForm.{column_count, shapes_of};
 ghost use Rattle.std_form.specs.Cuts.{IsCutOf, IsSmall};
 
-use super::*;
-use base_names::{Name, NoMemory, OrMemory, Seq};
-use dictionary::{Std, StdRow};
+use base_names::OrMemory;
+use dictionary::Std;
 use frac128::{Frac, Op, Wide};
-use model_data::{Direction, Model, Row, Sense, Term, Var, VarKind};
+use model_data::{Direction, Model, Sense, VarKind};
+use sample_models::{frac, model};
+use solve_defs::Cut;
 use std::alloc::Global;
 use std::process::Abort;
 use std::test::Fail;
+use std_form::{StdFault, point_back, to_std};
 
-/// A variable: its bounds, its coefficient in the objective and its kind.
-type VarOf = (Option<i128>, Option<i128>, i128, VarKind);
-
-/// A row: its terms, its sense and its right side.
-type RowOf<'a> = (&'a [(u32, i128)], Sense, i128);
-
-fn whole(n: i128) -> Frac {
-    Frac::make(n, 1).unwrap_or(Frac::zero())
-}
-
-fn model(
-    alloc: Global,
-    direction: Direction,
-    constant: i128,
-    vars: &[VarOf],
-    rows: &[RowOf],
-) -> Result<Model, NoMemory> {
-    let mut own_vars = Vec::new(alloc);
-    for (lower, upper, obj, kind) in vars {
-        own_vars.push(Var {
-            name: Name::of(Vec::new(alloc)),
-            lower: lower.map(whole),
-            upper: upper.map(whole),
-            obj: whole(*obj),
-            kind: *kind,
-            tag: None,
-        })?;
-    }
-    let mut own_rows = Vec::new(alloc);
-    for (terms, sense, rhs) in rows {
-        let mut own_terms = Vec::new(alloc);
-        for (var, coef) in *terms {
-            own_terms.push(Term {
-                var: *var,
-                coef: whole(*coef),
-            })?;
-        }
-        own_rows.push(Row {
-            name: Name::of(Vec::new(alloc)),
-            sense: *sense,
-            rhs: whole(*rhs),
-            terms: Seq::of(own_terms),
-        })?;
-    }
-    Ok(Model {
-        direction,
-        constant: whole(constant),
-        vars: Seq::of(own_vars),
-        rows: Seq::of(own_rows),
-    })
+fn whole(n: i128) -> Result<Frac, Fail> {
+    frac((n, 1))
 }
 
 /// Maximize or minimize `3 x + 2 y - z + w + 5`, where x is from 1 to 4, y at most 5, z free and w binary, with one row of each sense.
-fn small_model(alloc: Global, direction: Direction) -> Result<Model, NoMemory> {
+fn small_model(alloc: Global, direction: Direction) -> Result<Model, Fail> {
+    let one = (1, 1);
     let vars = [
-        (Some(1), Some(4), 3, VarKind::Continuous),
-        (None, Some(5), 2, VarKind::Integer),
-        (None, None, -1, VarKind::Continuous),
-        (None, None, 1, VarKind::Binary),
+        ("x", Some(one), Some((4, 1)), (3, 1), VarKind::Continuous),
+        ("y", None, Some((5, 1)), (2, 1), VarKind::Integer),
+        ("z", None, None, (-1, 1), VarKind::Continuous),
+        ("w", None, None, one, VarKind::Binary),
     ];
+    let less = [(0, (2, 1)), (1, one)];
+    let greater = [(0, one), (2, (-1, 1))];
+    let equal = [(1, one), (3, one)];
     let rows = [
-        ([(0, 2), (1, 1)].as_slice(), Sense::Less, 10),
-        ([(0, 1), (2, -1)].as_slice(), Sense::Greater, 3),
-        ([(1, 1), (3, 1)].as_slice(), Sense::Equal, 4),
+        ("a", less.as_slice(), Sense::Less, (10, 1)),
+        ("b", greater.as_slice(), Sense::Greater, (3, 1)),
+        ("c", equal.as_slice(), Sense::Equal, (4, 1)),
     ];
-    model(alloc, direction, 5, &vars, &rows)
+    model(alloc, direction, (5, 1), &vars, &rows)
 }
 
 fn is_small(bound: Option<i128>) -> bool
@@ -112,12 +70,11 @@ fn point(
     alloc: Global,
     m: &Model,
     cuts: &Vec<Cut>,
-    xs: &[i128],
+    xs: &Vec<Frac>,
 ) -> Result<Vec<Frac>, OrMemory<StdFault>> {
     let program = form(rt, alloc, m, cuts)?;
-    let values: Vec<Frac> = xs.iter().map(|x| whole(*x)).collect(alloc)?;
-    assert!(rt; values.len() == program.obj.len());
-    point_back(alloc, m, cuts, &values)
+    assert!(rt; xs.len() == program.obj.len());
+    point_back(alloc, m, cuts, xs)
 }
 
 fn wide<T: Drop>(answer: Result<T, OrMemory<StdFault>>) -> Option<Wide> {
@@ -127,11 +84,20 @@ fn wide<T: Drop>(answer: Result<T, OrMemory<StdFault>>) -> Option<Wide> {
     }
 }
 
-fn assert_values(rt: &impl Abort, values: &[Frac], expected: &[i128]) {
+fn wholes(alloc: Global, numbers: &[i128]) -> Result<Vec<Frac>, Fail> {
+    let mut values = Vec::new(alloc);
+    for number in numbers {
+        values.push(whole(*number)?)?;
+    }
+    Ok(values)
+}
+
+fn assert_values(rt: &impl Abort, values: &[Frac], expected: &[i128]) -> Result<(), Fail> {
     assert_eq!(rt; values.len(), expected.len());
     for (value, number) in values.iter().zip(expected) {
-        assert_eq!(rt; *value, whole(*number));
+        assert_eq!(rt; *value, whole(*number)?);
     }
+    Ok(())
 }
 
 /// Compares the rows, each by its coefficients and its right side, the objective and its constant.
@@ -141,14 +107,15 @@ fn assert_form(
     rows: &[(&[i128], i128)],
     obj: &[i128],
     constant: i128,
-) {
+) -> Result<(), Fail> {
     assert_eq!(rt; form.rows.len(), rows.len());
     for (row, (coefs, rhs)) in form.rows.as_slice().iter().zip(rows) {
-        assert_values(rt, row.coefs.as_slice(), coefs);
-        assert_eq!(rt; row.rhs, whole(*rhs));
+        assert_values(rt, row.coefs.as_slice(), coefs)?;
+        assert_eq!(rt; row.rhs, whole(*rhs)?);
     }
-    assert_values(rt, form.obj.as_slice(), obj);
-    assert_eq!(rt; form.constant, whole(constant));
+    assert_values(rt, form.obj.as_slice(), obj)?;
+    assert_eq!(rt; form.constant, whole(constant)?);
+    Ok(())
 }
 
 #[test]
@@ -165,14 +132,14 @@ fn each_shape(rt: HostRuntime) -> Result<(), Fail> {
     let none: Vec<Cut> = Vec::new(alloc);
     let m = small_model(alloc, Direction::Maximize)?;
     let greatest = form(&rt, alloc, &m, &none).ok().ok_or("a form")?;
-    assert_form(&rt, &greatest, &rows, &[3, -2, -1, 1, 1], 18);
+    assert_form(&rt, &greatest, &rows, &[3, -2, -1, 1, 1], 18)?;
     let turned = small_model(alloc, Direction::Minimize)?;
     let least = form(&rt, alloc, &turned, &none).ok().ok_or("a form")?;
-    assert_form(&rt, &least, &rows, &[-3, 2, 1, -1, -1], -18);
-    let values = point(&rt, alloc, &m, &none, &[2, 1, 5, 2, 1])
+    assert_form(&rt, &least, &rows, &[-3, 2, 1, -1, -1], -18)?;
+    let values = point(&rt, alloc, &m, &none, &wholes(alloc, &[2, 1, 5, 2, 1])?)
         .ok()
         .ok_or("a point")?;
-    assert_values(&rt, &values, &[3, 4, 3, 1]);
+    assert_values(&rt, &values, &[3, 4, 3, 1])?;
     Ok(())
 }
 
@@ -205,11 +172,11 @@ fn with_cuts(rt: HostRuntime) -> Result<(), Fail> {
     ];
     let m = small_model(alloc, Direction::Maximize)?;
     let program = form(&rt, alloc, &m, &cuts).ok().ok_or("a form")?;
-    assert_form(&rt, &program, &rows, &[3, 2, 1, 1], 4);
-    let values = point(&rt, alloc, &m, &cuts, &[1, 4, 6, 0])
+    assert_form(&rt, &program, &rows, &[3, 2, 1, 1], 4)?;
+    let values = point(&rt, alloc, &m, &cuts, &wholes(alloc, &[1, 4, 6, 0])?)
         .ok()
         .ok_or("a point")?;
-    assert_values(&rt, &values, &[3, 4, 1, 0]);
+    assert_values(&rt, &values, &[3, 4, 1, 0])?;
     Ok(())
 }
 
@@ -217,12 +184,13 @@ fn with_cuts(rt: HostRuntime) -> Result<(), Fail> {
 #[test]
 fn unlawful_terms(rt: HostRuntime) -> Result<(), Fail> {
     let alloc = rt.alloc();
-    let vars = [(Some(1), None, 1, VarKind::Continuous)];
-    let rows = [([(0, 2), (7, 5), (0, 3)].as_slice(), Sense::Less, 10)];
-    let m = model(alloc, Direction::Maximize, 0, &vars, &rows)?;
+    let vars = [("x", Some((1, 1)), None, (1, 1), VarKind::Continuous)];
+    let terms = [(0, (2, 1)), (7, (5, 1)), (0, (3, 1))];
+    let rows = [("a", terms.as_slice(), Sense::Less, (10, 1))];
+    let m = model(alloc, Direction::Maximize, (0, 1), &vars, &rows)?;
     let none: Vec<Cut> = Vec::new(alloc);
     let program = form(&rt, alloc, &m, &none).ok().ok_or("a form")?;
-    assert_form(&rt, &program, &[([2].as_slice(), 5)], &[1], 1);
+    assert_form(&rt, &program, &[([2].as_slice(), 5)], &[1], 1)?;
     Ok(())
 }
 
@@ -243,14 +211,15 @@ fn refused_operations(rt: HostRuntime) -> Result<(), Fail> {
     ];
     let none: Vec<Cut> = Vec::new(alloc);
     for (lower, upper, obj, constant, coef, rhs, op, left, right) in table {
-        let vars = [(Some(lower), upper, obj, VarKind::Continuous)];
-        let terms = [(0, coef)];
-        let rows = [(terms.as_slice(), Sense::Less, rhs)];
-        let m = model(alloc, Direction::Minimize, constant, &vars, &rows)?;
+        let bounds = (Some((lower, 1)), upper.map(|n| (n, 1)));
+        let vars = [("x", bounds.0, bounds.1, (obj, 1), VarKind::Continuous)];
+        let terms = [(0, (coef, 1))];
+        let rows = [("a", terms.as_slice(), Sense::Less, (rhs, 1))];
+        let m = model(alloc, Direction::Minimize, (constant, 1), &vars, &rows)?;
         let expected = Wide {
             op,
-            left: whole(left),
-            right: whole(right),
+            left: whole(left)?,
+            right: whole(right)?,
         };
         assert_eq!(rt; wide(form(&rt, alloc, &m, &none)), Some(expected));
     }
@@ -270,14 +239,18 @@ fn refused_values(rt: HostRuntime) -> Result<(), Fail> {
     ];
     let none: Vec<Cut> = Vec::new(alloc);
     for (lower, upper, xs, op, left, right) in table {
-        let vars = [(lower, upper, 0, VarKind::Continuous)];
-        let m = model(alloc, Direction::Maximize, 0, &vars, &[])?;
+        let bounds = (lower.map(|n| (n, 1)), upper.map(|n| (n, 1)));
+        let vars = [("x", bounds.0, bounds.1, (0, 1), VarKind::Continuous)];
+        let m = model(alloc, Direction::Maximize, (0, 1), &vars, &[])?;
         let expected = Wide {
             op,
-            left: whole(left),
-            right: whole(right),
+            left: whole(left)?,
+            right: whole(right)?,
         };
-        assert_eq!(rt; wide(point(&rt, alloc, &m, &none, xs)), Some(expected));
+        assert_eq!(rt;
+            wide(point(&rt, alloc, &m, &none, &wholes(alloc, xs)?)),
+            Some(expected)
+        );
     }
     Ok(())
 }

@@ -1,45 +1,35 @@
 //! Two programs, pivot by pivot, with ample memory, and refused operations.
 ghost use Rattle.std.specs.Prelude.{Contains, IsTrue};
 
-use super::*;
 use base_names::{NoMemory, Seq};
+use dictionary::{Dict, Std, StdRow, Tableau};
 use frac128::{Frac, Op, Wide};
+use sample_models::{Ratio, frac};
 use std::alloc::Global;
 use std::process::Abort;
 use std::test::Fail;
 
-type Parts = (i128, i128);
-
-fn frac(rt: &impl Abort, parts: Parts) -> Frac {
-    Frac::make(parts.0, parts.1).expect(rt, "a fraction of the table")
-}
-
-fn list(rt: &impl Abort, alloc: Global, parts: &[Parts]) -> Result<Seq<Frac>, NoMemory> {
+fn list(alloc: Global, ratios: &[Ratio]) -> Result<Seq<Frac>, Fail> {
     let mut all = Vec::new(alloc);
-    for part in parts {
-        all.push(frac(rt, *part))?;
+    for ratio in ratios {
+        all.push(frac(*ratio)?)?;
     }
     Ok(Seq::of(all))
 }
 
 /// A program of coefficients and right sides by row, and of the objective, whose constant is last.
-fn program(
-    rt: &impl Abort,
-    alloc: Global,
-    rows: &[[Parts; 3]],
-    obj: [Parts; 3],
-) -> Result<Std, NoMemory> {
+fn program(alloc: Global, rows: &[[Ratio; 3]], obj: [Ratio; 3]) -> Result<Std, Fail> {
     let mut all = Vec::new(alloc);
     for row in rows {
         all.push(StdRow {
-            coefs: list(rt, alloc, &[row[0], row[1]])?,
-            rhs: frac(rt, row[2]),
+            coefs: list(alloc, &[row[0], row[1]])?,
+            rhs: frac(row[2])?,
         })?;
     }
     Ok(Std {
         rows: Seq::of(all),
-        obj: list(rt, alloc, &[obj[0], obj[1]])?,
-        constant: frac(rt, obj[2]),
+        obj: list(alloc, &[obj[0], obj[1]])?,
+        constant: frac(obj[2])?,
     })
 }
 
@@ -49,8 +39,8 @@ fn shows<T: Tableau>(
     tableau: &T,
     basic: &[u32],
     nonbasic: &[u32],
-    lines: &[&[Parts]],
-) {
+    lines: &[&[Ratio]],
+) -> Result<(), Fail> {
     let rows = tableau.rows();
     let cols = tableau.cols();
     assert!(rt; rows as usize == basic.len());
@@ -67,9 +57,10 @@ fn shows<T: Tableau>(
         let line = lines[place as usize];
         assert!(rt; line.len() == cols as usize + 1);
         for col in 0..cols + 1 {
-            assert!(rt; tableau.entry(place + 1, col) == frac(rt, line[col as usize]));
+            assert!(rt; tableau.entry(place + 1, col) == frac(line[col as usize])?);
         }
     }
+    Ok(())
 }
 
 fn opened(rt: &impl Abort, alloc: Global, s: &Std) -> Result<Dict, NoMemory> {
@@ -113,7 +104,7 @@ fn pivot(rt: &impl Abort, dict: &mut Dict, row: u32, col: u32) -> Result<(), Wid
 #[test]
 fn two_pivots(rt: HostRuntime) -> Result<(), Fail> {
     let rows = [[(2, 1), (1, 1), (4, 1)], [(1, 1), (3, 1), (6, 1)]];
-    let s = program(&rt, rt.alloc(), &rows, [(1, 1), (1, 1), (0, 1)])?;
+    let s = program(rt.alloc(), &rows, [(1, 1), (1, 1), (0, 1)])?;
     let mut dict = opened(&rt, rt.alloc(), &s)?;
     shows(
         &rt,
@@ -125,7 +116,7 @@ fn two_pivots(rt: HostRuntime) -> Result<(), Fail> {
             &[(6, 1), (1, 1), (3, 1)],
             &[(0, 1), (1, 1), (1, 1)],
         ],
-    );
+    )?;
     pivot(&rt, &mut dict, 1, 1).expect(&rt, "a pivot that fits");
     shows(
         &rt,
@@ -137,7 +128,7 @@ fn two_pivots(rt: HostRuntime) -> Result<(), Fail> {
             &[(4, 1), (-1, 2), (5, 2)],
             &[(2, 1), (-1, 2), (1, 2)],
         ],
-    );
+    )?;
     pivot(&rt, &mut dict, 2, 2).expect(&rt, "a pivot that fits");
     shows(
         &rt,
@@ -149,7 +140,7 @@ fn two_pivots(rt: HostRuntime) -> Result<(), Fail> {
             &[(8, 5), (-1, 5), (2, 5)],
             &[(14, 5), (-2, 5), (-1, 5)],
         ],
-    );
+    )?;
     Ok(())
 }
 
@@ -160,7 +151,7 @@ fn two_phases(rt: HostRuntime) -> Result<(), Fail> {
         [(1, 1), (2, 1), (4, 1)],
         [(-2, 1), (1, 1), (-1, 1)],
     ];
-    let s = program(&rt, rt.alloc(), &rows, [(1, 1), (1, 1), (3, 1)])?;
+    let s = program(rt.alloc(), &rows, [(1, 1), (1, 1), (3, 1)])?;
     let mut dict = opened(&rt, rt.alloc(), &s)?;
     shows(
         &rt,
@@ -174,7 +165,7 @@ fn two_phases(rt: HostRuntime) -> Result<(), Fail> {
             &[(3, 1), (1, 1), (1, 1), (0, 1)],
             &[(0, 1), (0, 1), (0, 1), (-1, 1)],
         ],
-    );
+    )?;
     pivot(&rt, &mut dict, 1, 3).expect(&rt, "a pivot that fits");
     pivot(&rt, &mut dict, 1, 1).expect(&rt, "a pivot that fits");
     shows(
@@ -189,7 +180,7 @@ fn two_phases(rt: HostRuntime) -> Result<(), Fail> {
             &[(4, 1), (-1, 1), (0, 1), (1, 1)],
             &[(0, 1), (-1, 1), (0, 1), (0, 1)],
         ],
-    );
+    )?;
     end_phase_one(&rt, &mut dict);
     shows(
         &rt,
@@ -202,7 +193,7 @@ fn two_phases(rt: HostRuntime) -> Result<(), Fail> {
             &[(1, 1), (3, 1), (-2, 1)],
             &[(4, 1), (0, 1), (1, 1)],
         ],
-    );
+    )?;
     Ok(())
 }
 
@@ -211,12 +202,12 @@ fn two_phases(rt: HostRuntime) -> Result<(), Fail> {
 fn refused(rt: HostRuntime) -> Result<(), Fail> {
     let large = 1 << 126;
     let rows = [[(2, 1), (1, 1), (large, 1)], [(1, 1), (3, 1), (-large, 1)]];
-    let s = program(&rt, rt.alloc(), &rows, [(1, 1), (1, 1), (0, 1)])?;
+    let s = program(rt.alloc(), &rows, [(1, 1), (1, 1), (0, 1)])?;
     let mut dict = opened(&rt, rt.alloc(), &s)?;
     let wide = Wide {
         op: Op::Sub,
-        left: frac(&rt, (large, 1)),
-        right: frac(&rt, (-large, 1)),
+        left: frac((large, 1))?,
+        right: frac((-large, 1))?,
     };
     assert!(rt; pivot(&rt, &mut dict, 2, 3) == Err(wide));
     assert!(rt; dict.rows() == 2 && dict.cols() == 3 && dict.in_phase_one());
