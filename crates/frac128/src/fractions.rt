@@ -1,5 +1,5 @@
 //! The type of a fraction, and its operations.
-ghost use Rattle.std.specs.Prelude.{◌≡◌, ◌≢◌, ◌↔◌, ◌<◌, IsTrue, pos, unsigned_abs};
+ghost use Rattle.std.specs.Prelude.{◌≡◌, ◌≢◌, ◌↔◌, ◌<◌, All, IsTrue, pos, unsigned_abs};
 ghost use Rattle.std.specs.Option.{SomeIff};
 ghost use Rattle.frac128.specs.Fits.{FitsDifference, FitsProduct, FitsQuotient, FitsReduced, FitsSum};
 ghost use Rattle.frac128.specs.Fraction.{den, exact_difference, exact_product, exact_quotient, exact_sum, fraction, inverse, lowest, negation, one_value, quotient, zero_value};
@@ -97,6 +97,15 @@ impl Frac {
         ensures { IsKept self.now }
     {
         let _ = &self.num;
+    }
+
+    /// As `kept`, for each of these.
+    pub fn are_kept(values: &[Frac])
+        ensures { All IsKept values.now }
+    {
+        for value in values {
+            value.kept();
+        }
     }
 
     pub fn is_zero(&self) -> bool
