@@ -11,3 +11,4 @@ pub mod Points
 pub mod Removed
 pub mod Rows
 mod Worked
+pub mod Zeros

@@ -71,9 +71,24 @@ fn solve_row(row: &mut [Frac], column: usize) -> Result<(), Wide>
     Ok(())
 }
 
-/// Takes the variable of column `column` out of a basic variable's row.
-#[tactic(auto, unfolding(crate::specs::Dictionary::eliminated_basic))]
+/// Takes the variable of column `column` out of a basic variable's row. One that has none of it stays as it is.
+#[tactic(auto, using(crate::proofs::Zeros::basic_zero))]
 fn eliminate_basic(row: &mut [Frac], solved: &[Frac], column: usize) -> Result<(), Wide>
+    requires widths { length row.old ≡ length solved.now }
+    requires above { 0 < column }
+    requires within { column < length row.old }
+    ensures { with_value result row.new ≡ eliminated_basic column solved.now row.old }
+{
+    if row[column].is_zero() {
+        Frac::are_kept(row);
+        return Ok(());
+    }
+    combine_basic(row, solved, column)
+}
+
+/// As `eliminate_basic`, whatever the row has of the variable.
+#[tactic(auto, unfolding(crate::specs::Dictionary::eliminated_basic))]
+fn combine_basic(row: &mut [Frac], solved: &[Frac], column: usize) -> Result<(), Wide>
     requires widths { length row.old ≡ length solved.now }
     requires above { 0 < column }
     requires within { column < length row.old }
@@ -85,9 +100,24 @@ fn eliminate_basic(row: &mut [Frac], solved: &[Frac], column: usize) -> Result<(
     eliminate_entries(entries, &solved[1..], column - 1, &factor)
 }
 
-/// Takes the variable of column `column` out of an objective.
-#[tactic(auto, unfolding(crate::specs::Dictionary::eliminated_objective))]
+/// Takes the variable of column `column` out of an objective. One that has none of it stays as it is.
+#[tactic(auto, using(crate::proofs::Zeros::objective_zero))]
 pub fn eliminate_objective(row: &mut [Frac], solved: &[Frac], column: usize) -> Result<(), Wide>
+    requires widths { length row.old ≡ length solved.now }
+    requires above { 0 < column }
+    requires within { column < length row.old }
+    ensures { with_value result row.new ≡ eliminated_objective column solved.now row.old }
+{
+    if row[column].is_zero() {
+        Frac::are_kept(row);
+        return Ok(());
+    }
+    combine_objective(row, solved, column)
+}
+
+/// As `eliminate_objective`, whatever the row has of the variable.
+#[tactic(auto, unfolding(crate::specs::Dictionary::eliminated_objective))]
+fn combine_objective(row: &mut [Frac], solved: &[Frac], column: usize) -> Result<(), Wide>
     requires widths { length row.old ≡ length solved.now }
     requires above { 0 < column }
     requires within { column < length row.old }

@@ -213,10 +213,10 @@ turn i j d e lawful h =
       is_made = made.is_made;
     }
 
-pub turns : (r c : ℕ) (d e : Dictionary) → IsLawful d → Pivots r c d e → (i : ℕ) × (j : ℕ) × Turns i j d e
+pub turns : (r c : ℕ) (d e : Dictionary) → IsLawful d → Pivots r c d e → (i : ℕ) × (j : ℕ) × Turns i j d e × (r ≡ suc i) × (c ≡ suc j)
 turns zero c d e lawful h = absurd (omega (arith, h.row_above))
 turns (suc i) zero d e lawful h = absurd (omega (arith, h.column_above))
-turns (suc i) (suc j) d e lawful h = (i, j, turn i j d e lawful h)
+turns (suc i) (suc j) d e lawful h = (i, j, turn i j d e lawful h, refl, refl)
 
 exchanged_variables : (i j : ℕ) (basic nonbasic : List ℕ) → i < length basic → j < length nonbasic
     → exchanged (basic ++ nonbasic) i (length basic + j) ≡ slice_set basic i (slice_index nonbasic j) ++ slice_set nonbasic j (slice_index basic i)
