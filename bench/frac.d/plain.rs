@@ -1,10 +1,12 @@
 //! The operations of `frac128` as plain Rust. It prints the same lines as the program `frac_bench`.
+#[path = "../cpu_time.rs"]
+mod cpu_time;
 #[allow(dead_code)]
 mod fraction;
 
+use cpu_time::cpu_time;
 use fraction::{Frac, Random};
 use std::cmp::Ordering;
-use std::time::Instant;
 
 const PAIRS: usize = 512;
 const ROUNDS: u32 = 400;
@@ -49,11 +51,11 @@ fn measured(is_timed: bool, name: &str, once: fn(&Pairs, u128) -> u128, pairs: &
         println!("{name} {check:032x}");
         return;
     }
-    let start = Instant::now();
+    let start = cpu_time();
     for _ in 0..ROUNDS {
         check = once(pairs, check);
     }
-    let tenths = start.elapsed().as_nanos() / (ROUNDS as u128 * PAIRS as u128 / 10);
+    let tenths = (cpu_time() - start).as_nanos() / (ROUNDS as u128 * PAIRS as u128 / 10);
     println!("{name} {}.{} {check:032x}", tenths / 10, tenths % 10);
 }
 

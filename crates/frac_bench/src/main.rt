@@ -1,14 +1,14 @@
 //! Times the operations of `frac128` on operands of three sizes, for `bench/frac`.
 //!
 //! With no argument it prints a checksum of the results of each operation at each size, which is always the same. With
-//! the argument `time` it prints the nanoseconds of one operation in place of the checksum.
+//! the argument `time` it prints the nanoseconds of processor time of one operation in place of the checksum.
 #![tactic(auto)]
 
 ghost use Rattle.std.specs.Prelude.{◌^◌, pos, ◌<ℤ◌, ◌≤ℤ◌};
 
 use frac128::Frac;
 use std::cmp::Ordering;
-use std::time::{Clock, Instant};
+use std::time::CpuClock;
 use std::{env, io};
 
 const PAIRS: usize = 512;
@@ -116,7 +116,7 @@ fn once(op: Op, pairs: &Pairs, check: u128) -> u128 {
 
 /// One line: the name, and the checksum or the tenths of nanoseconds of one operation.
 fn measured(
-    rt: &(impl Print + Clock),
+    rt: &(impl Print + CpuClock),
     is_timed: bool,
     name: &str,
     op: Op,
@@ -126,11 +126,11 @@ fn measured(
     if !is_timed {
         return println!(rt; "{name} {check:032x}");
     }
-    let start = Instant::now(rt)?;
+    let start = rt.process_cpu_time()?;
     for _ in 0..ROUNDS {
         check = once(op, pairs, check);
     }
-    let nanos = start.elapsed(rt)?.as_nanos();
+    let nanos = rt.process_cpu_time()?.saturating_sub(start).as_nanos();
     let tenths = nanos / (ROUNDS as u128 * PAIRS as u128 / 10);
     println!(rt; "{name} {}.{} {check:032x}", tenths / 10, tenths % 10)
 }

@@ -1,7 +1,7 @@
 //! Times pivots of the dense dictionary, for `bench/pivot`.
 //!
 //! With no argument it prints a checksum of a dictionary of each size after one pivot, which is always the same. With the
-//! argument `time` it also prints the nanoseconds that a pivot takes for one entry.
+//! argument `time` it also prints the nanoseconds of processor time that a pivot takes for one entry.
 #![tactic(auto)]
 
 ghost use Rattle.std.specs.Prelude.{◌≤◌};
@@ -11,10 +11,10 @@ mod programs;
 use base_names::NoMemory;
 use dictionary::{Dict, Tableau};
 use frac128::Frac;
-use programs::program;
+use programs::{Entries, program};
 use std::alloc::Global;
 use std::process::ExitCode;
-use std::time::{Clock, Instant};
+use std::time::CpuClock;
 use std::{env, io};
 
 /// About how many entries the timed pivots of one size go over.
@@ -72,29 +72,30 @@ fn checksum(dict: &Dict) -> u128 {
 
 /// One line: the name, the size, the tenths of nanoseconds for one entry where they are wanted, and the checksum.
 fn measured(
-    rt: &(impl Print + Clock),
+    rt: &(impl Print + CpuClock),
     alloc: Global,
     is_timed: bool,
     name: &str,
     size: u32,
-    limits: (u128, u128),
+    entries: Entries,
 ) -> Result<(), Fault>
     requires { size ≤ 1000 }
 {
-    let mut dict = Dict::new(alloc, &program(alloc, size, limits)?)?;
+    let mut dict = Dict::new(alloc, &program(alloc, size, entries)?)?;
     pivot(&mut dict)?;
     let check = checksum(&dict);
     if !is_timed {
         println!(rt; "{name} {size} {check:032x}")?;
         return Ok(());
     }
-    let entries = (size + 1) * (size + 1);
-    let pivots = 2 * (ENTRIES / (2 * entries)).max(1);
-    let start = Instant::now(rt)?;
+    let cells = (size + 1) * (size + 1);
+    let pivots = 2 * (ENTRIES / (2 * cells)).max(1);
+    let start = rt.process_cpu_time()?;
     for _ in 0..pivots {
         pivot(&mut dict)?;
     }
-    let tenths = start.elapsed(rt)?.as_nanos() * 10 / (u128::from(pivots) * u128::from(entries));
+    let nanos = rt.process_cpu_time()?.saturating_sub(start).as_nanos();
+    let tenths = nanos * 10 / (u128::from(pivots) * u128::from(cells));
     println!(rt;
         "{name} {size} {}.{} {check:032x}",
         tenths / 10,
@@ -105,12 +106,27 @@ fn measured(
 
 fn run(rt: &HostRuntime) -> Result<(), Fault> {
     let is_timed = env::args(rt)?.any(|word| word.as_str() == "time");
+    let small = Entries {
+        num: 20,
+        den: 6,
+        one_of: 1,
+    };
+    let wide = Entries {
+        num: 1 << 30,
+        den: 1 << 10,
+        one_of: 1,
+    };
+    let sparse = Entries {
+        one_of: 10,
+        ..small
+    };
     for size in [20, 60, 200] {
-        measured(rt, rt.alloc(), is_timed, "small", size, (20, 6))?;
+        measured(rt, rt.alloc(), is_timed, "small", size, small)?;
     }
     for size in [20, 60, 200] {
-        measured(rt, rt.alloc(), is_timed, "wide", size, (1 << 30, 1 << 10))?;
+        measured(rt, rt.alloc(), is_timed, "wide", size, wide)?;
     }
+    measured(rt, rt.alloc(), is_timed, "sparse", 200, sparse)?;
     Ok(())
 }
 

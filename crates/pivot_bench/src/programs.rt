@@ -9,6 +9,14 @@ use std::alloc::Global;
 
 const MOST: u128 = 1 << 126;
 
+/// Which entries are drawn: their numerators and denominators are below these, and one of so many isn't 0.
+#[derive(Clone, Copy)]
+pub struct Entries {
+    pub num: u128,
+    pub den: u128,
+    pub one_of: u128,
+}
+
 /// A linear congruential generator, of which the upper halves are used.
 #[derive(Drop)]
 struct Random {
@@ -36,10 +44,13 @@ impl Random {
         (drawn % limit) as i128
     }
 
-    fn fraction(&mut self, limits: (u128, u128)) -> Frac {
-        let size = self.below(limits.0);
+    fn entry(&mut self, entries: Entries) -> Frac {
+        if entries.one_of > 1 && self.next() % entries.one_of != 0 {
+            return Frac::zero();
+        }
+        let size = self.below(entries.num);
         let num = if self.next() % 2 == 0 { size } else { -size };
-        let den = self.below(limits.1);
+        let den = self.below(entries.den);
         Frac::make(num, den + 1).unwrap_or(Frac::zero())
     }
 
@@ -47,13 +58,13 @@ impl Random {
         &mut self,
         alloc: Global,
         count: u32,
-        limits: (u128, u128),
+        entries: Entries,
     ) -> Result<Vec<Frac>, NoMemory>
         ensures { IfOk result (λ fractions. length fractions.items ≡ count) }
     {
         let mut fractions = Vec::new(alloc);
         for _ in 0..count {
-            fractions.push(self.fraction(limits))?;
+            fractions.push(self.entry(entries))?;
         }
         Ok(fractions)
     }
@@ -64,17 +75,12 @@ fn absolute(x: Frac) -> Frac {
 }
 
 /// A row whose right side is at least 0.
-fn row(
-    alloc: Global,
-    random: &mut Random,
-    size: u32,
-    limits: (u128, u128),
-) -> Result<StdRow, NoMemory>
+fn row(alloc: Global, random: &mut Random, size: u32, entries: Entries) -> Result<StdRow, NoMemory>
     ensures { IfOk result (λ row. length row.coefs ≡ size) }
 {
-    let rhs = absolute(random.fraction(limits));
+    let rhs = absolute(random.entry(entries));
     Ok(StdRow {
-        coefs: Seq::of(random.fractions(alloc, size, limits)?),
+        coefs: Seq::of(random.fractions(alloc, size, entries)?),
         rhs,
     })
 }
@@ -93,15 +99,15 @@ fn with_first_entry(row: StdRow, entry: Frac) -> StdRow
     }
 }
 
-/// As many rows as columns. The numbers' parts are below the limits.
-pub fn program(alloc: Global, size: u32, limits: (u128, u128)) -> Result<Std, NoMemory>
+/// As many rows as columns.
+pub fn program(alloc: Global, size: u32, entries: Entries) -> Result<Std, NoMemory>
     requires { size < 2 ^ 31 }
     ensures { IfOk result IsUniform }
 {
     let mut random = Random { state: 1 };
     let mut rows = Vec::new(alloc);
     for place in 0..size {
-        let row = row(alloc, &mut random, size, limits)?;
+        let row = row(alloc, &mut random, size, entries)?;
         let entry = Frac::make(3, 2).unwrap_or(Frac::one());
         let row = if place == 0 {
             with_first_entry(row, entry)
@@ -110,10 +116,10 @@ pub fn program(alloc: Global, size: u32, limits: (u128, u128)) -> Result<Std, No
         };
         rows.push(row)?;
     }
-    let constant = random.fraction(limits);
+    let constant = random.entry(entries);
     Ok(Std {
         rows: Seq::of(rows),
-        obj: Seq::of(random.fractions(alloc, size, limits)?),
+        obj: Seq::of(random.fractions(alloc, size, entries)?),
         constant,
     })
 }
