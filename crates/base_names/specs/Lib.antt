@@ -5,4 +5,3 @@ pub mod Outside
 pub mod OwnerName
 pub mod Prefix
 pub mod RefusalText
-pub mod Results

@@ -12,8 +12,7 @@
 //! What a name, an ID, a decimal and the text of a refusal are stands in `specs/OwnerName.antt`,
 //! `Id.antt`, `Decimal.antt` and `RefusalText.antt`. `specs/Outside.antt` has the words in which the
 //! traits of the outside say what was read and written, and when a count of faults rose;
-//! `specs/Prefix.antt` has beginnings of lists, and `specs/Results.antt` do-notation. The laws of the first
-//! two are in `proofs/`.
+//! `specs/Prefix.antt` has beginnings of lists. The laws of both are in `proofs/`.
 #![tactic(auto)]
 
 mod copying;

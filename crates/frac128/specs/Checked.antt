@@ -23,7 +23,7 @@ checked_product x y = value_or_wide (product_fits x y) (exact_product x y) Mul x
 abbrev pub checked_quotient : Fraction → Fraction → Result Fraction Wide
 checked_quotient x y = value_or_wide (quotient_fits x y) (exact_quotient x y) Div x y
 
--- what f gives of the first result, or the first refusal: the step of do-notation
+-- what f gives of the first result, or the first refusal, whatever is refused: the step of do-notation
 infixl 10 ◌>>=◌
 abbrev pub ◌>>=◌ : {A B E : Type 0} → Result A E → (A → Result B E) → Result B E
 ◌>>=◌ (Ok a) f = f a
