@@ -44,19 +44,19 @@ module _ (wants : List ℕ → Option ℕ) where
       ∙ ap (λ (b : List ℕ). with_block line b 0) (append_assoc block (byte ∷ []) (next ∷ bytes)))
 
   -- the bytes behind a line that asks for so long a block
-  asked_made : (count : ℕ) (line block : List ℕ) (size : ℕ) → length block ≡ size → count + length block < INPUT_LIMIT
+  pub asked_made : (count : ℕ) (line block : List ℕ) (size : ℕ) → length block ≡ size → count + length block < INPUT_LIMIT
       → behind (with_block line [] size).frames (made_from wants count (with_block line [] size).place block) ≡ with_block line block 0
   asked_made count line [] zero whole low = refl
   asked_made count line (byte ∷ bytes) zero whole low = absurd (omega (arith, whole))
   asked_made count line block (suc size) whole low = block_made count line [] block size whole low
 
-  asked_part_made : (count : ℕ) (line bytes : List ℕ) (size : ℕ) → length bytes < size → count + length bytes < INPUT_LIMIT
+  pub asked_part_made : (count : ℕ) (line bytes : List ℕ) (size : ℕ) → length bytes < size → count + length bytes < INPUT_LIMIT
       → behind (with_block line [] size).frames (made_from wants count (with_block line [] size).place bytes) ≡ still (InBlock line bytes (size - length bytes))
   asked_part_made count line bytes zero few low = absurd (omega (arith, few))
   asked_part_made count line bytes (suc size) few low = block_part_made count line [] bytes (suc size) few low
 
   -- a line that a line feed ends
-  line_made : (count : ℕ) (line given : List ℕ) → IsEndedLine line given → length line ≤ LINE_LIMIT → count + length given < INPUT_LIMIT
+  pub line_made : (count : ℕ) (line given : List ℕ) → IsEndedLine line given → length line ≤ LINE_LIMIT → count + length given < INPUT_LIMIT
       → made_from wants count (InLine []) given ≡ ended_line wants line
   line_made count line given is short low =
       let size : length given ≡ length is.body + 1 = ap length is.whole ∙ length-append is.body (10 ∷ []) in
@@ -109,7 +109,7 @@ module _ (wants : List ℕ → Option ℕ) where
       over_block_step (nat_le INPUT_LIMIT (count + 1)) count byte line block bytes missing refl
       (λ low'. over_block (count + 1) line (block ++ byte ∷ []) bytes (suc missing) low' (omega (arith, here)) (omega (arith, within)))
 
-  long_cases : (held : Held) (line more : List ℕ) (size : ℕ) → held.given < INPUT_LIMIT → IsLongBlock size held
+  pub long_cases : (held : Held) (line more : List ℕ) (size : ℕ) → held.given < INPUT_LIMIT → IsLongBlock size held
       → (with_block line [] size).frames ++ frames_to_end wants held.given (with_block line [] size).place (held.bytes ++ more) ≡ TooLong ∷ []
   long_cases held line more zero low long = absurd (omega (arith, low, long.within))
   long_cases held line more (suc size) low long =
