@@ -3,3 +3,4 @@ pub mod Ids
 pub mod Outside
 pub mod OwnerNames
 pub mod Prefixes
+pub mod Walks

@@ -7,6 +7,7 @@
 //!   [`read_id`] and [`write_id`] are inverse to each other.
 //! - [`Refusal`] says why a command was not done, and [`refusal_text`] is its exact text.
 //! - [`read_digits`], [`read_decimal`] and [`write_decimal`] read and write numbers.
+//! - [`History`] is a list that only proofs read, of what came so far.
 //! - [`append`] writes what a value prints onto a buffer that is kept: refusals, owners, IDs and numbers print their text.
 //!
 //! What a name, an ID, a decimal and the text of a refusal are stands in `specs/OwnerName.antt`,
@@ -17,6 +18,7 @@
 
 mod copying;
 mod decimal;
+mod history;
 mod id;
 mod id_text;
 mod memory;
@@ -32,6 +34,7 @@ mod writing;
 
 pub use copying::TryCopy;
 pub use decimal::{are_digits, read_decimal, read_digits, write_decimal};
+pub use history::History;
 pub use id::BatchId;
 pub use id_text::{read_id, write_id};
 pub use memory::{NoMemory, OrMemory};

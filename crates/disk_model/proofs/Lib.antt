@@ -2,4 +2,3 @@ pub mod ImageSteps
 pub mod MemoryCalls
 pub mod Moments
 pub mod Overwriting
-pub mod Walks

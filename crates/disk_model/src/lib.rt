@@ -14,7 +14,6 @@
 mod answer;
 mod disk;
 mod effect;
-mod history;
 mod memory_disk;
 
 pub use answer::{DiskDone, DiskLen};

@@ -8,8 +8,7 @@ ghost use Rattle.disk_model.specs.Memory.{moment_of, left_of, ImagesFollow, Call
 use crate::answer::{DiskDone, DiskLen};
 use crate::disk::Disk;
 use crate::effect::Effect;
-use crate::history::History;
-use base_names::NoMemory;
+use base_names::{History, NoMemory};
 use std::alloc::Global;
 
 /// A file in memory. It tells what a read gives, and all images. A call fails exactly where a growth finds

@@ -31,12 +31,12 @@ use denote.Triple.Spec.{Meets, triple_of}
 use denote.Triple.Table.{entered}
 use denote.Triple.Walked.{says, Stays, stay_dropped, walk_of, ends_at, walk_Meets, Goes-dropped}
 use Rattle.std.specs.contracts.marker.PhantomData as Mark
-use Rattle.disk_model.proofs.Walks.{none, one, one_made}
-use Rattle.disk_model.specs.contracts.history.History as History
-use Rattle.disk_model.specs.contracts.history.History.and as F
-use Rattle.disk_model.specs.contracts.history.History.and.Key.{name as #self}
-use Rattle.disk_model.proofs.history.History.and.Statement as stated
-use Rattle.disk_model.proofs.history.History.and.Code as code
+use Rattle.base_names.proofs.Walks.{none, one, one_made}
+use Rattle.base_names.specs.contracts.history.History as History
+use Rattle.base_names.specs.contracts.history.History.and as F
+use Rattle.base_names.specs.contracts.history.History.and.Key.{name as #self}
+use Rattle.base_names.proofs.history.History.and.Statement as stated
+use Rattle.base_names.proofs.history.History.and.Code as code
 
 module _ (A B : RattleType) where
   abbrev args : Args
