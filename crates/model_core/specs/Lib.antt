@@ -1,0 +1,9 @@
+pub mod Asked
+pub mod Effect
+pub mod Field
+pub mod Indexed
+pub mod Look
+pub mod Named
+pub mod One
+pub mod Parameter
+pub mod Texts
