@@ -1,7 +1,7 @@
 -- Items with names that differ: the one at the place of a name is the only one of that name.
 use Rattle.std.proofs.Common.{◌≡◌, ◌≢◌, refl, sym, ◌∙◌, ap, ap₂, subst, arith, ℕ, suc, ◌+◌, nat_lt, Bool, true, false, not, cond, ◌||◌, if◌then◌else◌}
 use Rattle.std.proofs.Common.{List, [], ◌∷◌, length, map, filter, set, slice_get, get_or, position, bytes_eq, Option, Some, None, All, AllPairs}
-use Rattle.std.specs.List.{list_any, prefix_len, remove}
+use Rattle.std.specs.List.{list_any, position_or_len, prefix_len, remove}
 use Rattle.std.specs.Option.{option_map_or}
 use Rattle.std.proofs.lemmas.Bool.{false_from_ne_true}
 use Rattle.std.proofs.lemmas.List.Folds.{list_any_none}
@@ -88,6 +88,28 @@ module _ {X : Type 0} (name_of : X → List ℕ) (name : List ℕ) where
       → at_place place change xs ≡ changed_by_name change xs
   changed_at change xs place distinct found known =
       subst (λ (n : ℕ). at_place n change xs ≡ changed_by_name change xs) (first-position xs place found) (at_first change xs distinct known)
+
+  named_step : (b : Bool) (r : ℕ) (x d : X) (xs : List X) → named x ≡ b → (b ≡ false → named (get_or xs r d) ≡ true)
+      → named (get_or (x ∷ xs) (cond (not b) (1 + r) 0) d) ≡ true
+  named_step true r x d xs e k = e
+  named_step false r x d xs e k =
+      let one : suc r ≡ 1 + r = omega arith in
+      subst (λ (n : ℕ). named (get_or (x ∷ xs) n d) ≡ true) one (k refl)
+
+  named_first : (xs : List X) (d : X) → list_any named xs ≡ true → named (get_or xs (first_named xs) d) ≡ true
+  named_first [] d any = absurd cc
+  named_first (x ∷ xs) d any =
+      named_step (named x) (first_named xs) x d xs refl
+      (λ e. named_first xs d (sym (ap (λ b. b || list_any named xs) e) ∙ any))
+
+  -- the item at the place of a name has the name
+  pub named_at : (xs : List X) (place : ℕ) (d : X) → position named xs ≡ Some place → list_any named xs ≡ true → named (get_or xs place d) ≡ true
+  named_at xs place d found known =
+      subst (λ (n : ℕ). named (get_or xs n d) ≡ true) (first-position xs place found) (named_first xs d known)
+
+  -- the place that a definition speaks of is the one that is found
+  pub place_is_found : (xs : List X) (place : ℕ) → position named xs ≡ Some place → position_or_len named xs ≡ place
+  place_is_found xs place found = first-position xs place found
 
   remove_step : (b : Bool) (r : ℕ) (x : X) (xs rest : List X) → (b ≡ true → rest ≡ xs) → (b ≡ false → remove xs r ≡ rest)
       → remove (x ∷ xs) (cond (not b) (1 + r) 0) ≡ cond (not b) (x ∷ rest) rest

@@ -1,6 +1,7 @@
 -- What the tables beside a model know of its names.
-use Rattle.std.proofs.Common.{◌≡◌, sym, ◌∙◌, ap, ℕ, List, true, position, bytes_eq, Some}
+use Rattle.std.proofs.Common.{◌≡◌, sym, ◌∙◌, ap, subst, ℕ, ◌<◌, List, length, map, true, position, bytes_eq, Some}
 use Rattle.std.specs.List.{list_any}
+use Rattle.std.proofs.lemmas.List.{length-map}
 use Rattle.model_data.specs.Lawful.{IsLawful}
 use Rattle.model_data.specs.declared.model.Model.{Model}
 use Rattle.model_data.specs.declared.model.Row.{Row}
@@ -38,3 +39,10 @@ module _ {tables : Tables} {m : Model} (index : IsIndexOf tables m) (name : List
   row_written lawful {place} found known change =
       ap (λ (rows : List Row). record m { rows = rows })
       (changed_at (λ (r : Row). r.name) name change m.rows place lawful.row_names (place_of_row ∙ sym found) (known_row ∙ sym known))
+
+  -- a place in the table is one in the model
+  pub var_within : {place : ℕ} → place < length tables.vars.texts → place < length m.vars
+  var_within {place} h = subst (λ (n : ℕ). place < n) (ap length index.vars ∙ length-map m.vars (λ (v : Var). v.name)) h
+
+  pub row_within : {place : ℕ} → place < length tables.rows.texts → place < length m.rows
+  row_within {place} h = subst (λ (n : ℕ). place < n) (ap length index.rows ∙ length-map m.rows (λ (r : Row). r.name)) h

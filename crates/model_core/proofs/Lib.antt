@@ -1,5 +1,11 @@
+pub mod Added
+pub mod AtPlace
 pub mod ByName
 pub mod Judged
+pub mod InOrder
 pub mod Known
 pub mod Mapped
 pub mod OneField
+pub mod Spots
+pub mod Tags
+pub mod Without

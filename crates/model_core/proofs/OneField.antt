@@ -53,7 +53,6 @@ module _ (name : List ℕ) (change : Var → Var) (m : Model) where
     vars = h.vars ∙ sym (map-changed (λ (v : Var). v.name) (is_var name) change m.vars names);
     rows = h.rows;
     tags = λ tag. h.tags tag ∙ sym (any-changed (has_tag tag) (is_var name) change m.vars (λ v. ap (λ (t : Option (List ℕ)). option_map_or (bytes_eq tag) t false) (tags v)));
-    tags_once = h.tags_once;
     terms = h.terms;
   }
 
@@ -69,6 +68,5 @@ module _ (name : List ℕ) (change : Row → Row) (m : Model) (same : (r : Row) 
     vars = h.vars;
     rows = h.rows ∙ sym (map-changed (λ (r : Row). r.name) (is_row name) change m.rows names);
     tags = h.tags;
-    tags_once = h.tags_once;
     terms = h.terms ∙ sym (sum-changed (λ (r : Row). length r.terms) (is_row name) change m.rows same);
   }

@@ -30,10 +30,10 @@ abbrev pub coefficient_of : List ℕ → List NamedTerm → Fraction
 coefficient_of name [] = zero_value
 coefficient_of name (t ∷ terms) = if bytes_eq name t.name then t.coef else coefficient_of name terms
 
--- the terms as those of the variables, in the order of these, of which the first has the place
-abbrev pub terms_from : ℕ → List Var → List NamedTerm → List Term
+-- the terms as those of the variables of the names, in the order of these, of which the first has the place
+abbrev pub terms_from : ℕ → List (List ℕ) → List NamedTerm → List Term
 terms_from place [] terms = []
-terms_from place (v ∷ vars) terms = term_of place (coefficient_of v.name terms) ++ terms_from (suc place) vars terms
+terms_from place (name ∷ names) terms = term_of place (coefficient_of name terms) ++ terms_from (suc place) names terms
 
 -- the terms with this coefficient of the variable at the place
 abbrev pub with_coefficient : ℕ → Fraction → List Term → List Term
@@ -61,7 +61,7 @@ without_var name m = record m {
 abbrev pub changed : Change → Model → Model
 changed (AddVar v) m = record m { vars = m.vars ++ v ∷ [] }
 changed (AddConstr name sense rhs terms) m =
-    record m { rows = m.rows ++ record { name = name; sense = sense; rhs = rhs; terms = terms_from 0 m.vars terms } ∷ [] }
+    record m { rows = m.rows ++ record { name = name; sense = sense; rhs = rhs; terms = terms_from 0 (map (λ v. v.name) m.vars) terms } ∷ [] }
 changed (ChgCoeff row var x) m = on_row row (in_row (with_coefficient (var_place var m) x)) m
 changed (SetLb name bound) m = on_var name (λ v. record v { lower = bound }) m
 changed (SetUb name bound) m = on_var name (λ v. record v { upper = bound }) m

@@ -6,4 +6,6 @@ pub mod Look
 pub mod Named
 pub mod One
 pub mod Parameter
+pub mod Placed
+pub mod Rising
 pub mod Texts

@@ -1,5 +1,5 @@
 //! Names or tags in a table.
-ghost use Rattle.std.specs.Prelude.{◌≡◌, ◌<◌, [], ◌∷◌, ◌++◌, IfSome, OnOk, bytes_eq, false, is_some, length, position};
+ghost use Rattle.std.specs.Prelude.{◌≡◌, ◌<◌, ◌≤◌, List, [], ◌∷◌, ◌++◌, ℕ, IfSome, OnOk, bytes_eq, false, is_some, length, position};
 ghost use Rattle.std.specs.List.{list_any, remove};
 
 use base_names::NoMemory;
@@ -56,6 +56,17 @@ impl Texts {
         Ok(())
     }
 
+    /// Adds a new text at the end.
+    pub(crate) fn add(&mut self, alloc: Global, text: &[u8]) -> Result<(), NoMemory>
+        requires { list_any (bytes_eq text.now) self.old.texts ≡ false }
+        ensures { OnOk result (self.new.texts ≡ self.old.texts ++ text.now ∷ []) }
+    {
+        let text = text.to_vec(alloc)?;
+        self.reserve()?;
+        self.add_reserved(text);
+        Ok(())
+    }
+
     /// Adds a new text at the end. It takes no memory.
     pub(crate) fn add_reserved(&mut self, text: Vec<u8>)
         requires room { 0 < self.old.room }
@@ -71,5 +82,14 @@ impl Texts {
         ensures { self.new.texts ≡ remove self.old.texts place }
     {
         self.table.shift_remove_index(place);
+    }
+
+    /// Takes a text out. The others may change their order.
+    pub(crate) fn take_out(&mut self, text: &[u8])
+        ensures gone { list_any (bytes_eq text.now) self.new.texts ≡ false }
+        ensures others { (other : List ℕ) → bytes_eq text.now other ≡ false → list_any (bytes_eq other) self.new.texts ≡ list_any (bytes_eq other) self.old.texts }
+        ensures room { self.old.room ≤ self.new.room }
+    {
+        self.table.swap_remove(text);
     }
 }
