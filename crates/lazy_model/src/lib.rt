@@ -1,13 +1,18 @@
-// A library with one function.
+//! A model under changes that are queued first and applied together.
+//!
+//! A [`LazyModel`] shows the model of the changes up to the last [`update`](LazyModel::update), and judges each further change
+//! by the model of all changes that it has accepted. What one change does, and when it is refused, is said in `model_core`;
+//! `specs/Lazy.antt` says what a `LazyModel` is seen as.
+//!
+//! It keeps two models with their tables, and so needs twice the memory of one. A change is made on the second of them at
+//! once and kept in a log; an update exchanges the two, in constant time and without memory. The first change after an update
+//! is preceded by the changes of the log, which the second model lacks then. So each change is made twice, and a list of
+//! changes takes time in its length.
 #![tactic(auto)]
 
-ghost use Rattle.std.specs.Prelude.{◌≡◌};
-ghost use Rattle.lazy_model.specs.Echo.{echo_of};
+mod lazy;
+mod laws;
+mod replay;
 
-// The `ensures` clause is the contract: what `echo` returns is `echo_of` of its argument, a definition
-// in `specs/Echo.antt`, which a caller's clause can cite too.
-pub fn echo(x: usize) -> usize
-    ensures { result ≡ echo_of x }
-{
-    x
-}
+pub use laws::an_update_moves_the_mark;
+pub use lazy::{LazyModel, LoadDone};

@@ -1,5 +1,5 @@
 -- Items with names that differ: the one at the place of a name is the only one of that name.
-use Rattle.std.proofs.Common.{◌≡◌, ◌≢◌, refl, sym, ◌∙◌, ap, ap₂, subst, arith, ℕ, suc, ◌+◌, nat_lt, Bool, true, false, not, cond, ◌||◌, if◌then◌else◌}
+use Rattle.std.proofs.Common.{◌≡◌, ◌≢◌, refl, sym, ◌∙◌, ap, ap₂, subst, arith, ℕ, suc, ◌+◌, ◌<◌, nat_lt, Bool, true, false, not, cond, ◌||◌, if◌then◌else◌}
 use Rattle.std.proofs.Common.{List, [], ◌∷◌, length, map, filter, set, slice_get, get_or, position, bytes_eq, Option, Some, None, All, AllPairs}
 use Rattle.std.specs.List.{list_any, position_or_len, prefix_len, remove}
 use Rattle.std.specs.Option.{option_map_or}
@@ -22,7 +22,7 @@ from_some true n i e = cc
 from_some false n i e = absurd cc
 
 module _ {X : Type 0} (name_of : X → List ℕ) (name : List ℕ) where
-  abbrev named : X → Bool
+  abbrev pub named : X → Bool
   named x = bytes_eq name (name_of x)
 
   abbrev first_named : List X → ℕ
@@ -35,7 +35,7 @@ module _ {X : Type 0} (name_of : X → List ℕ) (name : List ℕ) where
   first-position xs place found = from_some (nat_lt (first_named xs) (length xs)) (first_named xs) place found
 
   -- no further item has the name of the first one
-  others : (x : X) (xs : List X) → named x ≡ true → AreDistinct (map name_of (x ∷ xs)) → list_any named xs ≡ false
+  pub others : (x : X) (xs : List X) → named x ≡ true → AreDistinct (map name_of (x ∷ xs)) → list_any named xs ≡ false
   others x xs is distinct =
       let names = map name_of xs in
       let apart = pairs_head (λ (x y : List ℕ). x ≢ y) (name_of x) names distinct in
@@ -107,9 +107,46 @@ module _ {X : Type 0} (name_of : X → List ℕ) (name : List ℕ) where
   named_at xs place d found known =
       subst (λ (n : ℕ). named (get_or xs n d) ≡ true) (first-position xs place found) (named_first xs d known)
 
+  inside_step : (b : Bool) (r : ℕ) (xs : List X) → (b ≡ false → r < length xs) → cond (not b) (1 + r) 0 < suc (length xs)
+  inside_step true r xs k = omega arith
+  inside_step false r xs k = let h = k refl in omega (arith, h)
+
+  pub place_inside : (xs : List X) → list_any named xs ≡ true → position_or_len named xs < length xs
+  place_inside [] any = absurd cc
+  place_inside (x ∷ xs) any =
+      inside_step (named x) (first_named xs) xs (λ e. place_inside xs (sym (ap (λ b. b || list_any named xs) e) ∙ any))
+
   -- the place that a definition speaks of is the one that is found
   pub place_is_found : (xs : List X) (place : ℕ) → position named xs ≡ Some place → position_or_len named xs ≡ place
   place_is_found xs place found = first-position xs place found
+
+  found_step : (b : Bool) (r : ℕ) (x : X) (xs : List X) (rest : Option X) → (b ≡ false → rest ≡ slice_get xs r)
+      → (if b then Some x else rest) ≡ slice_get (x ∷ xs) (cond (not b) (1 + r) 0)
+  found_step true r x xs rest k = refl
+  found_step false r x xs rest k =
+      let one : suc r ≡ 1 + r = omega arith in
+      k refl ∙ ap (slice_get (x ∷ xs)) one
+
+  abbrev pub first_of_name : List X → Option X
+  first_of_name [] = None
+  first_of_name (x ∷ xs) = if named x then Some x else first_of_name xs
+
+  first_found : (xs : List X) → list_any named xs ≡ true → first_of_name xs ≡ slice_get xs (first_named xs)
+  first_found [] any = absurd cc
+  first_found (x ∷ xs) any =
+      found_step (named x) (first_named xs) x xs (first_of_name xs) (λ e. first_found xs (sym (ap (λ b. b || list_any named xs) e) ∙ any))
+
+  -- the first item of a name is the one at its place
+  pub found_at : (xs : List X) (place : ℕ) → position named xs ≡ Some place → list_any named xs ≡ true → first_of_name xs ≡ slice_get xs place
+  found_at xs place found known = first_found xs known ∙ ap (slice_get xs) (first-position xs place found)
+
+  missing_step : (b any : Bool) (x : X) (rest : Option X) → (b || any) ≡ false → (any ≡ false → rest ≡ None) → (if b then Some x else rest) ≡ None
+  missing_step true any x rest h k = absurd cc
+  missing_step false any x rest h k = k h
+
+  pub not_found : (xs : List X) → list_any named xs ≡ false → first_of_name xs ≡ None
+  not_found [] h = refl
+  not_found (x ∷ xs) h = missing_step (named x) (list_any named xs) x (first_of_name xs) h (not_found xs)
 
   remove_step : (b : Bool) (r : ℕ) (x : X) (xs rest : List X) → (b ≡ true → rest ≡ xs) → (b ≡ false → remove xs r ≡ rest)
       → remove (x ∷ xs) (cond (not b) (1 + r) 0) ≡ cond (not b) (x ∷ rest) rest
@@ -125,6 +162,11 @@ module _ {X : Type 0} (name_of : X → List ℕ) (name : List ℕ) where
       remove_step (named x) (first_named xs) x xs (filter (λ x. not (named x)) xs)
       (λ e. unnamed-filter xs (others x xs e distinct))
       (λ e. remove_first xs (pairs_tail (λ (x y : List ℕ). x ≢ y) (name_of x) (map name_of xs) distinct) (sym (ap (λ b. b || list_any named xs) e) ∙ any))
+
+  -- the item at the first place of the name is the one that is taken away
+  pub first_removed : (xs : List X) → AreDistinct (map name_of xs) → list_any named xs ≡ true
+      → remove xs (position_or_len named xs) ≡ filter (λ x. not (named x)) xs
+  first_removed xs distinct known = remove_first xs distinct known
 
   -- the item at the place of the name is the one that is taken away
   pub removed_at : (xs : List X) (place : ℕ) → AreDistinct (map name_of xs) → position named xs ≡ Some place → list_any named xs ≡ true

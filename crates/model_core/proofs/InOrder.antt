@@ -35,6 +35,7 @@ module _ {X : Type 0} where
   behind_it x y ys h = (suc (h.0), omega (arith, h.1), h.2)
 
   contains_in : (x : X) (xs : List X) → In x xs → Contains xs x
+  contains_in x [] h = absurd h
   contains_in x (y ∷ ys) (inl e) = (0, omega arith, e)
   contains_in x (y ∷ ys) (inr h) = behind_it x y ys (contains_in x ys h)
 
@@ -42,6 +43,7 @@ module _ {X : Type 0} where
   moved_in x xs ys moves h = let there = Contains-permutation xs ys x moves (contains_in x xs h) in in_at x ys there.0 there.1 there.2
 
   all_in : (P : X → Type 0) (x : X) (xs : List X) → All P xs → In x xs → P x
+  all_in P x [] h i = absurd i
   all_in P x (y ∷ ys) h (inl e) = subst P e (h 0 y (omega arith))
   all_in P x (y ∷ ys) h (inr i) = all_in P x ys (λ k d within. h (suc k) d (omega (arith, within))) i
 
@@ -54,6 +56,7 @@ module _ {X : Type 0} where
   inner_step false x y ys h = h
 
   filter_in : (p : X → Bool) (x : X) (xs : List X) → In x xs → p x ≡ true → In x (filter p xs)
+  filter_in p x [] h pass = absurd h
   filter_in p x (y ∷ ys) (inl e) pass = kept_step (p y) x y (filter p ys) (ap p e ∙ pass) (inl e)
   filter_in p x (y ∷ ys) (inr h) pass = inner_step (p y) x y (filter p ys) (filter_in p x ys h pass)
 
@@ -68,6 +71,7 @@ module _ {X : Type 0} where
   in_filter p x (y ∷ ys) h = unfilter_step p (p y) x y ys (filter p ys) refl (in_filter p x ys) h
 
 map_in : {X Y : Type 0} (f : X → Y) (x : X) (xs : List X) → In x xs → In (f x) (map f xs)
+map_in f x [] h = absurd h
 map_in f x (y ∷ ys) (inl e) = inl (ap f e)
 map_in f x (y ∷ ys) (inr h) = inr (map_in f x ys h)
 
@@ -114,7 +118,7 @@ found_step name text false r names e rest =
     let inside = (rest refl).0 in
     (omega (arith, inside), subst (λ (n : ℕ). get_or (text ∷ names) n [] ≡ name) one ((rest refl).1))
 
-place_is : (names : List (List ℕ)) (name : List ℕ) → list_any (bytes_eq name) names ≡ true
+pub place_is : (names : List (List ℕ)) (name : List ℕ) → list_any (bytes_eq name) names ≡ true
     → (place_of names name < length names) × (get_or names (place_of names name) [] ≡ name)
 place_is [] name known = absurd cc
 place_is (text ∷ names) name known =
@@ -151,6 +155,7 @@ or_false_right true b e = absurd cc
 or_false_right false b e = e
 
 any_in : {X : Type 0} (p : X → Bool) (x : X) (xs : List X) → In x xs → p x ≡ true → list_any p xs ≡ true
+any_in p x [] h pass = absurd h
 any_in p x (y ∷ ys) (inl e) pass = ap (λ b. b || list_any p ys) (ap p e ∙ pass)
 any_in p x (y ∷ ys) (inr h) pass = ap (λ r. p y || r) (any_in p x ys h pass) ∙ or_true (p y) where
   or_true : (b : Bool) → (b || true) ≡ true
@@ -158,6 +163,7 @@ any_in p x (y ∷ ys) (inr h) pass = ap (λ r. p y || r) (any_in p x ys h pass) 
   or_true false = refl
 
 only_coefficient : (t : NamedTerm) (terms : List NamedTerm) → has_double (map (λ u. u.name) terms) ≡ false → In t terms → coefficient_of t.name terms ≡ t.coef
+only_coefficient t [] single h = absurd h
 only_coefficient t (u ∷ terms) single (inl e) =
     let name : u.name ≡ t.name = ap (λ (v : NamedTerm). v.name) e in
     ap (λ (b : Bool). if b then u.coef else coefficient_of t.name terms) ((bytes_eq-Decides t.name u.name).1 (sym name)) ∙ ap (λ (v : NamedTerm). v.coef) e
@@ -173,17 +179,19 @@ only_coefficient t (u ∷ terms) single (inr h) =
 FoundTerm : List ℕ → List NamedTerm → Type 0
 FoundTerm name terms = (t : NamedTerm) × (In t terms × (t.name ≡ name) × (coefficient_of name terms ≡ t.coef))
 
-found_coefficient : (name : List ℕ) (terms : List NamedTerm) → is_zero (coefficient_of name terms) ≡ false → FoundTerm name terms
+found_by_name : (name : List ℕ) (t : NamedTerm) (terms : List NamedTerm) (b : Bool) → bytes_eq name t.name ≡ b
+    → (is_zero (coefficient_of name terms) ≡ false → FoundTerm name terms) → is_zero (coefficient_of name (t ∷ terms)) ≡ false → FoundTerm name (t ∷ terms)
 unfolding FoundTerm
+found_by_name name t terms true same rest e =
+    (t, (inl refl, sym ((bytes_eq-Decides name t.name).0 same), ap (λ (b : Bool). if b then t.coef else coefficient_of name terms) same))
+found_by_name name t terms false differ rest e =
+    let here : coefficient_of name (t ∷ terms) ≡ coefficient_of name terms = ap (λ (b : Bool). if b then t.coef else coefficient_of name terms) differ in
+    let found = rest (ap is_zero (sym here) ∙ e) in
+    (found.0, (inr (found.1.0), found.1.1, here ∙ found.1.2))
+
+found_coefficient : (name : List ℕ) (terms : List NamedTerm) → is_zero (coefficient_of name terms) ≡ false → FoundTerm name terms
 found_coefficient name [] e = absurd cc
-found_coefficient name (t ∷ terms) e = by_name (bytes_eq name t.name) refl where
-  by_name : (b : Bool) → bytes_eq name t.name ≡ b → FoundTerm name (t ∷ terms)
-  by_name true same =
-      (t, (inl refl, sym ((bytes_eq-Decides name t.name).0 same), ap (λ (b : Bool). if b then t.coef else coefficient_of name terms) same))
-  by_name false other =
-      let here : coefficient_of name (t ∷ terms) ≡ coefficient_of name terms = ap (λ (b : Bool). if b then t.coef else coefficient_of name terms) other in
-      let found = found_coefficient name terms (ap is_zero (sym here) ∙ e) in
-      (found.0, (inr (found.1.0), found.1.1, here ∙ found.1.2))
+found_coefficient name (t ∷ terms) e = found_by_name name t terms (bytes_eq name t.name) refl (found_coefficient name terms) e
 
 -- the term of the variable whose name stands at the place i, from k on
 item : ℕ → List (List ℕ) → List NamedTerm → ℕ → Term
@@ -227,7 +235,7 @@ other_item k x t rest false h = inr h
 terms_in : (k : ℕ) (names : List (List ℕ)) (terms : List NamedTerm) (i : ℕ) (t : Term) → i < length names → item k names terms i ≡ t
     → is_zero (coefficient_of (get_or names i []) terms) ≡ false → In t (terms_from k names terms)
 unfolding item
-terms_in k [] terms i t within is zero = absurd (omega (arith, within))
+terms_in k [] terms i t within is other = absurd (omega (arith, within))
 terms_in k (name ∷ names) terms zero t within is other =
     let place : k ≡ k + 0 = omega arith in
     first_item k (coefficient_of name terms) t (terms_from (suc k) names terms) (is_zero (coefficient_of name terms)) other
@@ -255,7 +263,7 @@ rising_step k x rest false rising behind =
 -- the terms in the order of the variables rise
 pub rising_from : (k : ℕ) (names : List (List ℕ)) (terms : List NamedTerm) → IsRising (terms_from k names terms)
 unfolding IsItem item
-rising_from k [] terms i j d before within = absurd (omega (arith, within))
+rising_from k [] terms = λ i j d before within. absurd (omega (arith, within))
 rising_from k (name ∷ names) terms =
     rising_step k (coefficient_of name terms) (terms_from (suc k) names terms) (is_zero (coefficient_of name terms)) (rising_from (suc k) names terms)
     (λ t h. let found = in_terms (suc k) names terms t h in
@@ -286,47 +294,57 @@ none_count p (x ∷ xs) h =
     let rest = none_count p xs (or_false_right (p == x.var) (list_any (λ u. p == u.var) xs) h) in
     omega (arith, all, first, rest)
 
+some_first : (p : ℕ) (x : Term) (xs : List Term) (b : Bool) → (p == x.var) ≡ b → (list_any (λ u. p == u.var) xs ≡ true → 1 ≤ sum_by (one p) xs)
+    → (p == x.var || list_any (λ u. p == u.var) xs) ≡ true → 1 ≤ sum_by (one p) (x ∷ xs)
+some_first p x xs true e more h =
+    let all = sum_by-cons (one p) x xs in let first = one_step p x true e in omega (arith, all, first)
+some_first p x xs false e more h =
+    let all = sum_by-cons (one p) x xs in
+    let rest = more (sym (ap (λ b. b || list_any (λ u. p == u.var) xs) e) ∙ h) in
+    omega (arith, all, rest)
+
 some_count : (p : ℕ) (xs : List Term) → list_any (λ u. p == u.var) xs ≡ true → 1 ≤ sum_by (one p) xs
 some_count p [] h = absurd cc
-some_count p (x ∷ xs) h = by_first (p == x.var) refl where
-  by_first : (b : Bool) → (p == x.var) ≡ b → 1 ≤ sum_by (one p) (x ∷ xs)
-  by_first true e =
-      let all = sum_by-cons (one p) x xs in let first = one_step p x true e in omega (arith, all, first)
-  by_first false e =
-      let all = sum_by-cons (one p) x xs in
-      let rest = some_count p xs (sym (ap (λ b. b || list_any (λ u. p == u.var) xs) e) ∙ h) in
-      omega (arith, all, rest)
+some_count p (x ∷ xs) h = some_first p x xs (p == x.var) refl (some_count p xs) h
+
+single_first : (p : ℕ) (x : Term) (xs : List Term) (b : Bool) → (p == x.var) ≡ b → sum_by (one p) xs ≤ 1
+    → list_any (λ u. x.var == u.var) xs ≡ false → sum_by (one p) (x ∷ xs) ≤ 1
+single_first p x xs true e rest h =
+    let all = sum_by-cons (one p) x xs in
+    let first = one_step p x true e in
+    let none = none_count p xs (subst (λ (n : ℕ). list_any (λ u. n == u.var) xs ≡ false) (sym (eqb-true p x.var e)) h) in
+    omega (arith, all, first, none)
+single_first p x xs false e rest h =
+    let all = sum_by-cons (one p) x xs in
+    let first = one_step p x false e in
+    omega (arith, all, first, rest)
 
 single_count : (xs : List Term) → has_double_var xs ≡ false → (p : ℕ) → sum_by (one p) xs ≤ 1
 single_count [] h p = omega arith
-single_count (x ∷ xs) h p = by_first (p == x.var) refl where
-  by_first : (b : Bool) → (p == x.var) ≡ b → sum_by (one p) (x ∷ xs) ≤ 1
-  by_first true e =
-      let all = sum_by-cons (one p) x xs in
-      let first = one_step p x true e in
-      let rest = none_count p xs (subst (λ (n : ℕ). list_any (λ u. n == u.var) xs ≡ false) (sym (eqb-true p x.var e))
-          (or_false_left (list_any (λ u. x.var == u.var) xs) (has_double_var xs) h)) in
-      omega (arith, all, first, rest)
-  by_first false e =
-      let all = sum_by-cons (one p) x xs in
-      let first = one_step p x false e in
-      let rest = single_count xs (or_false_right (list_any (λ u. x.var == u.var) xs) (has_double_var xs) h) p in
-      omega (arith, all, first, rest)
+single_count (x ∷ xs) h p =
+    single_first p x xs (p == x.var) refl (single_count xs (or_false_right (list_any (λ u. x.var == u.var) xs) (has_double_var xs) h) p)
+    (or_false_left (list_any (λ u. x.var == u.var) xs) (has_double_var xs) h)
 
-double_count : (xs : List Term) → has_double_var xs ≡ true → (p : ℕ) × (2 ≤ sum_by (one p) xs)
+IsDoubled : List Term → Type 0
+IsDoubled xs = (p : ℕ) × (2 ≤ sum_by (one p) xs)
+
+double_first : (x : Term) (xs : List Term) (b : Bool) → list_any (λ u. x.var == u.var) xs ≡ b → (has_double_var xs ≡ true → IsDoubled xs)
+    → (list_any (λ u. x.var == u.var) xs || has_double_var xs) ≡ true → IsDoubled (x ∷ xs)
+unfolding IsDoubled
+double_first x xs true e more h =
+    let all = sum_by-cons (one x.var) x xs in
+    let first = one_step x.var x true (eq-eqb x.var x.var refl) in
+    let rest = some_count x.var xs e in
+    (x.var, omega (arith, all, first, rest))
+double_first x xs false e more h =
+    let found = more (sym (ap (λ b. b || has_double_var xs) e) ∙ h) in
+    let rest = found.1 in
+    let all = sum_by-cons (one (found.0)) x xs in
+    (found.0, omega (arith, all, rest))
+
+double_count : (xs : List Term) → has_double_var xs ≡ true → IsDoubled xs
 double_count [] h = absurd cc
-double_count (x ∷ xs) h = by_first (list_any (λ u. x.var == u.var) xs) refl where
-  by_first : (b : Bool) → list_any (λ u. x.var == u.var) xs ≡ b → (p : ℕ) × (2 ≤ sum_by (one p) (x ∷ xs))
-  by_first true e =
-      let all = sum_by-cons (one x.var) x xs in
-      let first = one_step x.var x true (eq-eqb x.var x.var refl) in
-      let rest = some_count x.var xs e in
-      (x.var, omega (arith, all, first, rest))
-  by_first false e =
-      let found = double_count xs (sym (ap (λ b. b || has_double_var xs) e) ∙ h) in
-      let rest = found.1 in
-      let all = sum_by-cons (one (found.0)) x xs in
-      (found.0, omega (arith, all, rest))
+double_count (x ∷ xs) h = double_first x xs (list_any (λ u. x.var == u.var) xs) refl (double_count xs) h
 
 same_bool : (a b : Bool) → (a ≡ true → b ≡ false → ⊥) → (a ≡ false → b ≡ true → ⊥) → a ≡ b
 same_bool true true f g = refl
@@ -336,6 +354,7 @@ same_bool false false f g = refl
 
 -- whether two terms have one variable doesn't depend on their order
 double_moved : (xs ys : List Term) → IsPermutation xs ys → has_double_var xs ≡ has_double_var ys
+unfolding IsDoubled
 double_moved xs ys moves = same_bool (has_double_var xs) (has_double_var ys)
     (λ a b. let two = double_count xs a in let many = two.1 in let few = single_count ys b (two.0) in
         let same = sum_by-IsPermutation (one (two.0)) xs ys moves in omega (arith, many, few, same))
@@ -346,7 +365,7 @@ or_true : (b : Bool) → (b || true) ≡ true
 or_true true = refl
 or_true false = refl
 
-double_at : (xs : List Term) (i j : ℕ) (d : Term) → i < j → j < length xs → (get_or xs i d).var ≡ (get_or xs j d).var → has_double_var xs ≡ true
+pub double_at : (xs : List Term) (i j : ℕ) (d : Term) → i < j → j < length xs → (get_or xs i d).var ≡ (get_or xs j d).var → has_double_var xs ≡ true
 double_at [] i j d before within same = absurd (omega (arith, within))
 double_at (x ∷ xs) i zero d before within same = absurd (omega (arith, before))
 double_at (x ∷ xs) zero (suc j) d before within same =
@@ -374,6 +393,7 @@ rising_single (x ∷ xs) h =
     ap₂ (λ a b. a || b) (none_equal x.var xs (pairs_head (λ (s u : Term). s.var < u.var) x xs h)) (rising_single xs (rest_rising x xs h))
 
 all_known : {X : Type 0} (p : X → Bool) (x : X) (xs : List X) → list_all p xs ≡ true → In x xs → p x ≡ true
+all_known p x [] all h = absurd h
 all_known p x (y ∷ ys) all (inl e) = sym (ap p e) ∙ left_of (p y) (list_all p ys) all where
   left_of : (a b : Bool) → (a && b) ≡ true → a ≡ true
   left_of true b h = refl
@@ -453,3 +473,11 @@ module _ (names : List (List ℕ)) where
       in_order =
           same_terms (filter (λ t. not (is_zero t.coef)) ordered) (terms_from 0 names terms)
           (AllPairs-filter (λ (s t : Term). s.var < t.var) (λ t. not (is_zero t.coef)) ordered rising) (rising_from 0 names terms) forth back
+
+-- terms in order, of which no neighbours have one variable, rise
+pub adjacent_rising : (xs : List Term) → IsNonDecreasingBy (λ (t : Term). t.var) xs
+    → ((k : ℕ) (d : Term) → suc k < length xs → (get_or xs k d).var < (get_or xs (suc k) d).var) → IsRising xs
+adjacent_rising xs order next i j d before within =
+    let one = next i d (omega (arith, before, within)) in
+    let rest = order (suc i) j d (omega (arith, before)) within in
+    omega (arith, one, rest)

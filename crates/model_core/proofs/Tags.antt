@@ -54,7 +54,7 @@ behind_step tag v vars i d distinct within has = false_from_ne_true (has_tag tag
     ∙ list_any_at (has_tag tag) vars i d within has))
 
 -- no variable has the tag of another one
-tags_apart : (tag : List ℕ) (vars : List Var) (i : ℕ) (d : Var) → AreDistinct (filter_map (λ (v : Var). v.tag) vars) → i < length vars
+pub tags_apart : (tag : List ℕ) (vars : List Var) (i : ℕ) (d : Var) → AreDistinct (filter_map (λ (v : Var). v.tag) vars) → i < length vars
     → has_tag tag (get_or vars i d) ≡ true → list_any (has_tag tag) (remove vars i) ≡ false
 tags_apart tag [] i d distinct within has = absurd (omega (arith, within))
 tags_apart tag (v ∷ vars) zero d distinct within has =

@@ -1,8 +1,10 @@
 -- What the tables beside a model say of it.
-use Rattle.std.specs.Prelude.{◌≡◌, ℕ, List, map, filter_map, bytes_eq}
+use Rattle.std.specs.Prelude.{◌≡◌, ℕ, List, [], map, filter_map, bytes_eq}
 use Rattle.std.specs.List.{list_any}
+use Rattle.frac128.specs.Fraction.{zero_value}
 use Rattle.model_data.specs.Kept.{HasKeptNumbers}
 use Rattle.model_data.specs.Lawful.{AreDistinct, IsLawful, term_count}
+use Rattle.model_data.specs.declared.model.Direction.TheVariants.{Minimize}
 use Rattle.model_data.specs.declared.model.Model.{Model}
 use Rattle.model_data.specs.declared.model.Var.{Var}
 use Rattle.model_core.specs.Named.{knows_tag}
@@ -24,3 +26,7 @@ pub record IsSound (tables : Tables) (m : Model) : Type 0 where
 
 abbrev pub HasDistinctTags : List Var → Type 0
 HasDistinctTags vars = AreDistinct (filter_map (λ v. v.tag) vars)
+
+-- to be minimized, with nothing in it
+abbrev pub empty_model : Model
+empty_model = record { direction = Minimize; constant = zero_value; vars = []; rows = [] }

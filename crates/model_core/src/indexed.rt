@@ -1,10 +1,10 @@
 //! A model with tables of its names and tags.
-ghost use Rattle.std.specs.Prelude.{◌≡◌, ◌⊎◌, [], IfErr, IfOk, OnErr, OnOk, option_copied};
+ghost use Rattle.std.specs.Prelude.{◌≡◌, ◌⊎◌, IfErr, IfOk, OnErr, OnOk, option_copied};
 ghost use Rattle.base_names.specs.declared.refusal.Refusal.TheVariants.{MEMORY};
-ghost use Rattle.frac128.specs.Fraction.{zero_value};
 ghost use Rattle.model_data.specs.Kept.{HasKeptNumbers};
 ghost use Rattle.model_data.specs.Lawful.{IsLawful};
 ghost use Rattle.model_core.specs.Asked.{IsLawfulChange};
+ghost use Rattle.model_core.specs.Indexed.{empty_model};
 ghost use Rattle.model_core.specs.Look.{coefficient_at, row_of, var_of};
 ghost use Rattle.model_core.specs.One.{one};
 
@@ -40,7 +40,7 @@ impl Model for IndexedModel {
 impl IndexedModel {
     /// Of the empty model. It takes no memory.
     pub fn new(alloc: Global) -> IndexedModel
-        ensures { result ≡ record { direction = Direction.Minimize; constant = zero_value; vars = []; rows = [] } }
+        ensures { result ≡ empty_model }
     {
         IndexedModel {
             model: model_data::Model::empty(alloc),
@@ -91,24 +91,35 @@ impl IndexedModel {
     pub fn var(&self, name: &[u8]) -> Option<&Var>
         ensures { option_copied result ≡ var_of name.now self.now }
     {
-        let place = self.tables.vars.place(name)?;
-        self.model.vars.as_slice().get(place)
+        let Some(place) = self.tables.vars.place(name) else {
+            return None;
+        };
+        Some(&self.model.vars.as_slice()[place])
     }
 
     /// The row of the name.
     pub fn row(&self, name: &[u8]) -> Option<&Row>
         ensures { option_copied result ≡ row_of name.now self.now }
     {
-        let place = self.tables.rows.place(name)?;
-        self.model.rows.as_slice().get(place)
+        let Some(place) = self.tables.rows.place(name) else {
+            return None;
+        };
+        Some(&self.model.rows.as_slice()[place])
     }
 
     /// The coefficient of a variable in a row, 0 where it has no term; None where the row or the variable isn't there.
     pub fn coefficient(&self, row: &[u8], var: &[u8]) -> Option<Frac>
         ensures { result ≡ coefficient_at row.now var.now self.now }
     {
-        let row = self.row(row)?;
-        let place = self.tables.vars.place(var)?;
-        Some(coefficient(row.terms.as_slice(), place as u32))
+        let Some(row) = self.tables.rows.place(row) else {
+            return None;
+        };
+        let Some(var) = self.tables.vars.place(var) else {
+            return None;
+        };
+        Some(coefficient(
+            self.model.rows.as_slice()[row].terms.as_slice(),
+            var as u32,
+        ))
     }
 }

@@ -59,7 +59,11 @@ fn new_row(
     if !is_name(name.as_bytes()) {
         return Err(Refusal::NAME);
     }
-    let Some(ordered) = ordered_terms(alloc, &tables.vars, terms.as_slice())? else {
+    let found = match ordered_terms(alloc, &tables.vars, terms.as_slice()) {
+        Ok(found) => found,
+        Err(refusal) => return Err(refusal),
+    };
+    let Some(ordered) = found else {
         return Err(Refusal::DUPLICATE);
     };
     if tables.rows.has(name.as_bytes()) {
