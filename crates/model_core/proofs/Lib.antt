@@ -17,3 +17,4 @@ pub mod Retold
 pub mod Spots
 pub mod Tags
 pub mod Without
+pub mod Worked

@@ -2,8 +2,8 @@ use Rattle.std.proofs.Common.{◌≡◌, ◌+◌, length}
 use Rattle.lazy_model.specs.Log.{IsLog}
 use Rattle.lazy_model.proofs.replay.replay.Given as goal
 
-abbrev pub invariant-loop-_turn : goal.invariant-loop-_turn
-invariant-loop-_turn l = record {
+abbrev pub invariant-loop-turn : goal.invariant-loop-turn
+invariant-loop-turn l = record {
   log : IsLog l.log.items l.behind l.ahead;
-  left : length l.log.items + l._turn ≡ l._turn-end;
+  left : length l.log.items + l.turn ≡ l.turn-end;
 }
