@@ -1,0 +1,42 @@
+//! The hub as a session has it before it.
+
+ghost use Rattle.std.specs.Prelude.{◌≡◌, ℕ, List, ◌++◌};
+ghost use Rattle.cluster_defs.specs.declared.entry.Entry.{Entry};
+
+use base_names::Seat;
+use cluster_defs::{Ask, Reply};
+use std::alloc::Global;
+
+/// What answers the asks of a session.
+pub trait Desk {
+    ghost use Rattle.cluster_defs.specs.Asking.{Answers, MayBeAsked, entries_of, fulls_after};
+
+    // Which object this is: for a reference, its borrow.
+    ghost name: { Self → ℕ };
+
+    // The asks that were answered here, in their order.
+    ghost mine: { Self → List Entry };
+
+    // How often an ask was answered OWNERFULL COMMANDS. It stays at 2^64 - 1 once there.
+    ghost fulls: { Self → ℕ };
+
+    /// Answers what is asked for this seat. The answer is a refusal, or of the ask's kind.
+    fn ask(&mut self, alloc: Global, seat: &Seat, ask: Ask) -> Reply
+        requires { MayBeAsked ask }
+        ensures same { name self.new ≡ name self.old }
+        ensures answers { Answers result ask }
+        ensures entries { mine self.new ≡ mine self.old ++ entries_of seat.now ask result }
+        ensures full { fulls self.new ≡ fulls_after (fulls self.old) result };
+}
+
+impl<D: Desk> Desk for &mut D {
+    ghost name = { λ d. d.ghost_name };
+
+    ghost mine = { λ d. D.mine d.now };
+
+    ghost fulls = { λ d. D.fulls d.now };
+
+    fn ask(&mut self, alloc: Global, seat: &Seat, ask: Ask) -> Reply {
+        D::ask(&mut **self, alloc, seat, ask)
+    }
+}
