@@ -1,0 +1,19 @@
+pub mod Beginnings
+pub mod Blame
+pub mod Blank
+pub mod Chain
+pub mod Closing
+pub mod Decide
+pub mod Ended
+pub mod Judge
+pub mod Lasting
+pub mod Lists
+pub mod NumberFaults
+pub mod Replacing
+pub mod Stands
+pub mod Telling
+pub mod Texts
+pub mod Trail
+pub mod Waits
+pub mod Walk
+mod Worked
