@@ -1,4 +1,6 @@
+pub mod FirstByte
 pub mod Gaps
 pub mod ItemsAhead
 pub mod ReadSoFar
 pub mod RunsAhead
+pub mod Simple

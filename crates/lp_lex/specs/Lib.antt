@@ -1,3 +1,4 @@
 pub mod Ahead
 pub mod Lexer
 pub mod Runs
+pub mod Words

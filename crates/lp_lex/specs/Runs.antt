@@ -1,6 +1,20 @@
 -- Runs as the code has them.
-use Rattle.lp_defs.specs.Tokens.{Run}
+use Rattle.std.specs.Prelude.{ℕ, Bool, IsTrue, List, not, ◌&&◌, ◌==◌}
+use Rattle.std.specs.List.{list_all}
+use Rattle.lp_defs.specs.Kinds.{colon}
+use Rattle.lp_defs.specs.Tokens.{Run, is_plain_byte}
 use Rattle.lp_lex.specs.declared.runs.Run.{Run as Found}
 
 abbrev pub run_of : Found → Run
 run_of found = record { place = found.place; bytes = found.bytes.now }
+
+-- a byte that a token may have, and that is no colon
+abbrev pub is_simple_byte : ℕ → Bool
+is_simple_byte byte = is_plain_byte byte && not (byte == colon)
+
+abbrev pub IsSimple : List ℕ → Type 0
+IsSimple bytes = IsTrue (list_all is_simple_byte bytes)
+
+-- a run that is marked as simple is
+abbrev pub IsMarked : Found → Type 0
+IsMarked found = IsTrue found.is_simple → IsSimple found.bytes.now

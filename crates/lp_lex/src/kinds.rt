@@ -1,9 +1,15 @@
 //! What kind of token a run is.
-ghost use Rattle.std.specs.Prelude.{◌≡◌, if◌then◌else◌};
+//!
+//! The first byte decides which kinds can fit at all, so most runs are compared with no word.
+ghost use Rattle.std.specs.Prelude.{◌≡◌, IsTrue, false};
 ghost use Rattle.frac_text.specs.Reading.{reading};
-ghost use Rattle.lp_defs.specs.Kinds.{infinite_words, is_any_word, is_infinite, is_word_of_its_own, kind_of, label_of, name_of, number_kind, quantity_of, section_of, symbol_of, unsupported_words};
+ghost use Rattle.model_data.specs.Names.{is_one_of};
+ghost use Rattle.model_data.specs.Words.{infinite_words};
+ghost use Rattle.lp_defs.specs.Kinds.{colon, is_any_word, is_infinite, is_word_of_its_own, kind_of, label_of, name_of, number_kind, quantity_of, section_of, symbol_of};
+ghost use Rattle.lp_lex.specs.Runs.{IsSimple};
+ghost use Rattle.lp_lex.specs.Words.{begins_symbol, begins_unsigned, begins_word, label_or_name, section_in_b, section_in_m, section_in_s, unsupported_section, word_if, word_or_name};
 
-use crate::words::{begins_with, is_any, is_any_word, is_one_of};
+use crate::words::{begins_with, is_any_word, is_one_of, is_text};
 use base_names::FaultWord;
 use frac_text::NumFault;
 use lp_defs::{SectionWord, TokenKind};
@@ -12,8 +18,27 @@ use model_data::{MAX_NAME_LEN, Sense};
 type Kind = Result<TokenKind, FaultWord>;
 
 /// The kind of a run, or its fault.
+pub(crate) fn kind(run: &[u8], is_simple: bool) -> Kind
+    requires { IsTrue is_simple → IsSimple run.now }
+    ensures { result ≡ kind_of run.now }
+{
+    let [first, ..] = run else {
+        return kind_by_order(run);
+    };
+    if begins_symbol(*first) {
+        kind_by_order(run)
+    } else if begins_unsigned(*first) {
+        number(run)
+    } else if begins_word(*first) {
+        word_or_name(run, is_simple)
+    } else {
+        label_or_name(run, is_simple)
+    }
+}
+
+/// The kind by one test after the other.
 #[tactic(auto, unfolding(lp_defs::specs::Kinds::kind_of))]
-pub(crate) fn kind(run: &[u8]) -> Kind
+fn kind_by_order(run: &[u8]) -> Kind
     ensures { result ≡ kind_of run.now }
 {
     if let Some(kind) = symbol(run) {
@@ -25,9 +50,44 @@ pub(crate) fn kind(run: &[u8]) -> Kind
     if let Some(kind) = section(run) {
         return kind;
     }
-    match run {
-        [front @ .., b':'] => label(front),
-        _ => name(run),
+    label_or_name(run, false)
+}
+
+/// Whether a sign, a colon, a comparison or a bracket begins with the byte.
+fn begins_symbol(byte: u8) -> bool
+    ensures { result ≡ begins_symbol byte }
+{
+    matches!(byte, b'+' | b'-' | b':' | b'<' | b'=' | b'>' | b'[')
+}
+
+/// Whether a number without a sign begins with the byte.
+fn begins_unsigned(byte: u8) -> bool
+    ensures { result ≡ begins_unsigned byte }
+{
+    byte.is_ascii_digit() || byte == b'.'
+}
+
+/// Whether a word with a meaning of its own may begin with the byte.
+fn begins_word(byte: u8) -> bool
+    ensures { result ≡ begins_word byte }
+{
+    matches!(
+        byte.to_ascii_lowercase(),
+        b'b' | b'e' | b'f' | b'g' | b'i' | b'm' | b'p' | b's'
+    )
+}
+
+/// The kind of a run that begins as a word does, and as no symbol or number.
+fn word_or_name(run: &[u8], is_simple: bool) -> Kind
+    requires { IsTrue is_simple → IsSimple run.now }
+    ensures { result ≡ word_or_name run.now }
+{
+    if is_infinite_size(run) {
+        return Ok(TokenKind::Infinite { negative: false });
+    }
+    match section(run) {
+        Some(kind) => kind,
+        None => label_or_name(run, is_simple),
     }
 }
 
@@ -36,19 +96,19 @@ pub(crate) fn kind(run: &[u8]) -> Kind
 fn symbol(run: &[u8]) -> Option<Kind>
     ensures { result ≡ symbol_of run.now }
 {
-    if is_any(run, &["+"]) {
+    if is_text(run, "+") {
         Some(Ok(TokenKind::Sign { negative: false }))
-    } else if is_any(run, &["-"]) {
+    } else if is_text(run, "-") {
         Some(Ok(TokenKind::Sign { negative: true }))
-    } else if is_any(run, &[":"]) {
+    } else if is_text(run, ":") {
         Some(Ok(TokenKind::Colon))
-    } else if is_any(run, &["<", "<=", "=<"]) {
+    } else if is_text(run, "<") || is_text(run, "<=") || is_text(run, "=<") {
         Some(Ok(TokenKind::Comparison(Sense::Less)))
-    } else if is_any(run, &[">", ">=", "=>"]) {
+    } else if is_text(run, ">") || is_text(run, ">=") || is_text(run, "=>") {
         Some(Ok(TokenKind::Comparison(Sense::Greater)))
-    } else if is_any(run, &["="]) {
+    } else if is_text(run, "=") {
         Some(Ok(TokenKind::Comparison(Sense::Equal)))
-    } else if is_any(run, &["->"]) || begins_with(run, "[") {
+    } else if is_text(run, "->") || begins_with(run, "[") {
         Some(Err(FaultWord::Unsupported))
     } else {
         None
@@ -97,39 +157,82 @@ fn is_infinite_size(run: &[u8]) -> bool
 }
 
 /// Section words.
-#[tactic(auto, unfolding(lp_defs::specs::Kinds::section_of))]
 fn section(run: &[u8]) -> Option<Kind>
     ensures { result ≡ section_of run.now }
 {
-    let word = if is_any_word(run, &["minimize", "minimise", "minimum", "min"]) {
-        SectionWord::Minimize
-    } else if is_any_word(run, &["maximize", "maximise", "maximum", "max"]) {
-        SectionWord::Maximize
-    } else if is_any_word(run, &["subject"]) {
-        SectionWord::Subject
-    } else if is_any_word(run, &["such"]) {
-        SectionWord::Such
-    } else if is_any_word(run, &["st", "st.", "s.t."]) {
-        SectionWord::Constraints
-    } else if is_any_word(run, &["bounds", "bound"]) {
-        SectionWord::Bounds
-    } else if is_any_word(run, &["general", "generals", "gen"]) {
-        SectionWord::General
-    } else if is_any_word(run, &["binary", "binaries", "bin"]) {
-        SectionWord::Binary
-    } else if is_any_word(run, &["free"]) {
-        SectionWord::Free
-    } else if is_any_word(run, &["end"]) {
-        SectionWord::End
-    } else {
-        return unsupported_section(run);
+    let [first, ..] = run else {
+        return None;
     };
-    Some(Ok(TokenKind::Section(word)))
+    match first.to_ascii_lowercase() {
+        b'm' => section_in_m(run),
+        b's' => section_in_s(run),
+        b'b' => section_in_b(run),
+        b'g' => word_if(
+            is_any_word(run, &["general", "generals", "gen"]),
+            SectionWord::General,
+        ),
+        b'f' => word_if(is_any_word(run, &["free"]), SectionWord::Free),
+        b'e' => word_if(is_any_word(run, &["end"]), SectionWord::End),
+        b'p' => unsupported_section(run),
+        _ => None,
+    }
+}
+
+fn word_if(is_word: bool, word: SectionWord) -> Option<Kind>
+    ensures { result ≡ word_if is_word word }
+{
+    if is_word {
+        Some(Ok(TokenKind::Section(word)))
+    } else {
+        None
+    }
+}
+
+/// Section words that begin with M.
+fn section_in_m(run: &[u8]) -> Option<Kind>
+    ensures { result ≡ section_in_m run.now }
+{
+    if is_any_word(run, &["minimize", "minimise", "minimum", "min"]) {
+        Some(Ok(TokenKind::Section(SectionWord::Minimize)))
+    } else if is_any_word(run, &["maximize", "maximise", "maximum", "max"]) {
+        Some(Ok(TokenKind::Section(SectionWord::Maximize)))
+    } else {
+        unsupported_section(run)
+    }
+}
+
+/// Section words that begin with S.
+fn section_in_s(run: &[u8]) -> Option<Kind>
+    ensures { result ≡ section_in_s run.now }
+{
+    if is_any_word(run, &["subject"]) {
+        Some(Ok(TokenKind::Section(SectionWord::Subject)))
+    } else if is_any_word(run, &["such"]) {
+        Some(Ok(TokenKind::Section(SectionWord::Such)))
+    } else if is_any_word(run, &["st", "st.", "s.t."]) {
+        Some(Ok(TokenKind::Section(SectionWord::Constraints)))
+    } else {
+        unsupported_section(run)
+    }
+}
+
+/// Section words that begin with B.
+fn section_in_b(run: &[u8]) -> Option<Kind>
+    ensures { result ≡ section_in_b run.now }
+{
+    if is_any_word(run, &["bounds", "bound"]) {
+        Some(Ok(TokenKind::Section(SectionWord::Bounds)))
+    } else {
+        word_if(
+            is_any_word(run, &["binary", "binaries", "bin"]),
+            SectionWord::Binary,
+        )
+    }
 }
 
 /// Words of sections that are left out.
 fn unsupported_section(run: &[u8]) -> Option<Kind>
-    ensures { result ≡ (if is_any_word unsupported_words run.now then Some (Err FaultWord.Unsupported) else None) }
+    ensures { result ≡ unsupported_section run.now }
 {
     if is_any_word(
         run,
@@ -146,6 +249,20 @@ fn unsupported_section(run: &[u8]) -> Option<Kind>
         Some(Err(FaultWord::Unsupported))
     } else {
         None
+    }
+}
+
+/// A label or a name, where no other kind fits.
+fn label_or_name(run: &[u8], is_simple: bool) -> Kind
+    requires { IsTrue is_simple → IsSimple run.now }
+    ensures { result ≡ label_or_name run.now }
+{
+    if is_simple {
+        return name_of_length(run);
+    }
+    match run {
+        [front @ .., b':'] => label(front),
+        _ => name(run),
     }
 }
 
@@ -169,11 +286,23 @@ fn is_word_of_its_own(run: &[u8]) -> bool
 }
 
 /// A name, where no other kind fits.
-#[tactic(auto, unfolding(lp_defs::specs::Kinds::name_of))]
 fn name(run: &[u8]) -> Kind
     ensures { result ≡ name_of run.now }
 {
-    if is_one_of(run, b':') || begins_with(run, "*^<>=()],") {
+    if is_one_of(run, b':') {
+        Err(FaultWord::Word)
+    } else {
+        name_of_length(run)
+    }
+}
+
+/// A name that has no colon.
+#[tactic(auto, unfolding(lp_defs::specs::Kinds::name_of))]
+fn name_of_length(run: &[u8]) -> Kind
+    requires { is_one_of run.now colon ≡ false }
+    ensures { result ≡ name_of run.now }
+{
+    if begins_with(run, "*^<>=()],") {
         Err(FaultWord::Word)
     } else if run.len() <= MAX_NAME_LEN {
         Ok(TokenKind::Name)

@@ -3,7 +3,7 @@ ghost use Rattle.std.specs.Prelude.{◌≡◌, ◌+◌, ◌^◌, ◌<◌, IfSome
 ghost use Rattle.lp_defs.specs.Items.{fault_at, forbidden_after, is_next_on_line, item_alone, item_of};
 ghost use Rattle.lp_defs.specs.Tokens.{is_plain_byte};
 ghost use Rattle.lp_lex.specs.Ahead.{IsWithin, item_of_outcome, runs_ahead};
-ghost use Rattle.lp_lex.specs.Runs.{run_of};
+ghost use Rattle.lp_lex.specs.Runs.{IsMarked, run_of};
 
 use crate::kinds::kind;
 use crate::runs::{Run, along, next_run, text_end};
@@ -44,13 +44,6 @@ impl<'a> Lexer<'a> {
         }
     }
 
-    /// The whole text, of which tokens tell slices.
-    pub fn text(&self) -> &'a [u8]
-        ensures { result.now ≡ text_of self.now }
-    {
-        self.text
-    }
-
     /// The place of the text's end: one past the last byte, and on a new line where that is a line feed.
     pub fn end(&self) -> Place
         ensures { result ≡ end_for self.now }
@@ -86,6 +79,7 @@ impl<'a> Lexer<'a> {
 /// The kind of a run that ends there, or its fault.
 fn kind_before(text: &[u8], run: Run<'_>, end: Place) -> Result<TokenKind, LexFault>
     requires within { IsWithin text.now end }
+    requires marked { IsMarked run }
     requires column_fits { run.place.column + length run.bytes.now < 2 ^ 32 }
     requires offset_fits { run.place.offset + length run.bytes.now < 2 ^ 32 }
     ensures { item_of_outcome (run_of run.entry) result ≡ item_of (run_of run.entry) (runs_ahead text.now end) }
@@ -126,22 +120,27 @@ fn forbidden_after(first: &[u8]) -> Option<&'static str>
 
 /// The kind of a run, whatever comes next.
 fn kind_alone(run: Run<'_>) -> Result<TokenKind, LexFault>
+    requires marked { IsMarked run }
     requires column_fits { run.place.column + length run.bytes.now < 2 ^ 32 }
     requires offset_fits { run.place.offset + length run.bytes.now < 2 ^ 32 }
     ensures { item_of_outcome (run_of run.entry) result ≡ item_alone (run_of run.entry) }
 {
-    match bad_byte(run.bytes) {
-        Some(bad) => Err(fault_at(along(run.place, bad), FaultWord::Word)),
-        None => kind(run.bytes).map_err(|fault| fault_at(run.place, fault)),
+    if let Some(bad) = bad_byte(run) {
+        return Err(fault_at(along(run.place, bad), FaultWord::Word));
     }
+    kind(run.bytes, run.is_simple).map_err(|fault| fault_at(run.place, fault))
 }
 
 /// Where the first byte is that no token has.
-fn bad_byte(run: &[u8]) -> Option<usize>
-    ensures first { result ≡ position (λ byte. not (is_plain_byte byte)) run.now }
-    ensures in_run { IfSome result (λ bad. bad < length run.now) }
+fn bad_byte(run: Run<'_>) -> Option<usize>
+    requires { IsMarked run }
+    ensures first { result ≡ position (λ byte. not (is_plain_byte byte)) run.entry.bytes.now }
+    ensures in_run { IfSome result (λ bad. bad < length run.entry.bytes.now) }
 {
-    run.iter().position(|byte| !is_plain_byte(*byte))
+    if run.is_simple {
+        return None;
+    }
+    run.bytes.iter().position(|byte| !is_plain_byte(*byte))
 }
 
 /// Whether a token may have the byte.

@@ -14,6 +14,3 @@ mod words;
 pub use all_tokens::tokens;
 pub use lexer::Lexer;
 pub use lp_defs::{LexFault, Place, SectionWord, Token, TokenKind};
-
-#[cfg(test)]
-mod tests;

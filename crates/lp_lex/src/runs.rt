@@ -1,8 +1,8 @@
 //! The runs of a text, found one by one.
-ghost use Rattle.std.specs.Prelude.{◌≡◌, ◌+◌, ◌^◌, ◌<◌, ◌⊎◌, [], IfNone, IfSome, drop, length, take_while};
-ghost use Rattle.std.specs.List.{prefix_len};
+ghost use Rattle.std.specs.Prelude.{◌≡◌, ◌+◌, ◌^◌, ◌<◌, ◌≤◌, ◌⊎◌, [], IfNone, IfSome, IsTrue, drop, length, take_while};
+ghost use Rattle.std.specs.List.{list_all, prefix_len};
 ghost use Rattle.lp_defs.specs.Tokens.{behind_byte, is_run_byte, is_white};
-ghost use Rattle.lp_lex.specs.Runs.{run_of};
+ghost use Rattle.lp_lex.specs.Runs.{IsMarked, is_simple_byte, run_of};
 ghost use Rattle.lp_lex.specs.Ahead.{IsGap, IsNext, IsWithin, along, end_ahead, runs_ahead};
 
 use lp_defs::Place;
@@ -12,6 +12,8 @@ use lp_defs::Place;
 pub(crate) struct Run<'a> {
     pub(crate) place: Place,
     pub(crate) bytes: &'a [u8],
+    /// Each byte may stand in a token, and none is a colon, as in nearly all runs.
+    pub(crate) is_simple: bool,
 }
 
 /// The place behind a run of so many bytes, which has no line feed.
@@ -32,13 +34,18 @@ pub(crate) fn next_run(text: &[u8], place: Place) -> Option<Run<'_>>
     requires { IsWithin text.now place }
     ensures none { IfNone result (runs_ahead text.now place ≡ []) }
     ensures some { IfSome result (λ run. IsNext text.now place (run_of run)) }
+    ensures marked { IfSome result IsMarked }
 {
     let place = gap_end(text, place);
-    let bytes = front_run(&text[place.offset as usize..]);
+    let (bytes, is_simple) = front_run(&text[place.offset as usize..]);
     if bytes.is_empty() {
         return None;
     }
-    Some(Run { place, bytes })
+    Some(Run {
+        place,
+        bytes,
+        is_simple,
+    })
 }
 
 /// The place of the text's end, by the bytes ahead.
@@ -93,15 +100,45 @@ fn behind_byte(place: Place, byte: u8) -> Place
     }
 }
 
-/// The bytes of a run at the front.
-fn front_run(bytes: &[u8]) -> &[u8]
-    ensures { result.now ≡ take_while is_run_byte bytes.now }
+/// The bytes of a run at the front, and whether all of them are simple.
+fn front_run(bytes: &[u8]) -> (&[u8], bool)
+    ensures run { result.0.now ≡ take_while is_run_byte bytes.now }
+    ensures simple { IsTrue result.1 → IsTrue (list_all is_simple_byte result.0.now) }
+{
+    let simple = simple_len(bytes);
+    let len = run_len(bytes, simple);
+    (&bytes[..len], len == simple)
+}
+
+/// How many simple bytes stand at the front.
+fn simple_len(bytes: &[u8]) -> usize
+    ensures { result ≡ prefix_len is_simple_byte bytes.now }
 {
     let mut len = 0;
+    while len < bytes.len() && is_simple_byte(bytes[len]) {
+        len += 1;
+    }
+    len
+}
+
+/// How many bytes of a run stand at the front, so many of which are known.
+fn run_len(bytes: &[u8], known: usize) -> usize
+    requires all_of_run { prefix_len is_run_byte bytes.now ≡ known + prefix_len is_run_byte (drop known bytes.now) }
+    requires within { known ≤ length bytes.now }
+    ensures { result ≡ prefix_len is_run_byte bytes.now }
+{
+    let mut len = known;
     while len < bytes.len() && is_run_byte(bytes[len]) {
         len += 1;
     }
-    &bytes[..len]
+    len
+}
+
+/// Whether the byte may stand in a token, and is no colon.
+fn is_simple_byte(byte: u8) -> bool
+    ensures { result ≡ is_simple_byte byte }
+{
+    byte.is_ascii_graphic() && byte != b'\\' && byte != b':'
 }
 
 fn is_run_byte(byte: u8) -> bool

@@ -5,11 +5,11 @@ ghost use Rattle.std.specs.Str.{bytes_eq, str_eq_ignore_ascii_case};
 ghost use Rattle.model_data.specs.Names.{is_one_of};
 ghost use Rattle.lp_defs.specs.Kinds.{begins_with};
 
-/// Whether the run is one of the texts.
-pub(crate) fn is_any(run: &[u8], texts: &[&str]) -> bool
-    ensures { result ≡ list_any (λ text. bytes_eq text.now run.now) texts.now }
+/// Whether the run is the text.
+pub(crate) fn is_text(run: &[u8], text: &str) -> bool
+    ensures { result ≡ bytes_eq text.now run.now }
 {
-    texts.iter().any(|text| is_text(run, text))
+    text.as_bytes() == run
 }
 
 /// Whether the run is one of the words, without regard to case.
@@ -41,10 +41,4 @@ pub(crate) fn is_one_of(bytes: &[u8], byte: u8) -> bool
     ensures { result ≡ is_one_of bytes.now byte }
 {
     bytes.iter().any(|b| *b == byte)
-}
-
-fn is_text(run: &[u8], text: &str) -> bool
-    ensures { result ≡ bytes_eq text.now run.now }
-{
-    text.as_bytes() == run
 }

@@ -8,14 +8,14 @@ use Rattle.lp_lex.proofs.runs.next_run.Goals as goal
 
 pub returns-then-is_empty-clause-none : goal.returns-then-is_empty-clause-none
 returns-then-is_empty-clause-none c =
-    let same = c.front_run-bytes.ensures ∙ ap (take_while is_run_byte) (slice_to_end c.args.text.now c.gap_end-place.result.offset) in
-    let none : length c.front_run-bytes.result.now ≡ 0 = grind (arith, common_steps) in
+    let same = c.front_run-is_simple.ensures.run ∙ ap (take_while is_run_byte) (slice_to_end c.args.text.now c.gap_end-place.result.offset) in
+    let none : length c.front_run-is_simple.result.0.now ≡ 0 = grind (arith, common_steps) in
     none-behind_gap c.args.text.now c.args.place c.gap_end-place.result c.gap_end-place.ensures.gap c.gap_end-place.ensures.stop (ap length (sym same) ∙ none)
 
 pub returns-clause-some : goal.returns-clause-some
 returns-clause-some c =
-    let same = c.front_run-bytes.ensures ∙ ap (take_while is_run_byte) (slice_to_end c.args.text.now c.gap_end-place.result.offset) in
-    let some : 0 < length c.front_run-bytes.result.now = grind (arith, common_steps) in
+    let same = c.front_run-is_simple.ensures.run ∙ ap (take_while is_run_byte) (slice_to_end c.args.text.now c.gap_end-place.result.offset) in
+    let some : 0 < length c.front_run-is_simple.result.0.now = grind (arith, common_steps) in
     let bytes = drop c.gap_end-place.result.offset c.args.text.now in
     let len = length-prefix_len is_run_byte bytes in
     let counted = ap length same in

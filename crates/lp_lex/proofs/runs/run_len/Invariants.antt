@@ -1,7 +1,7 @@
 use Rattle.std.proofs.Common.{length, ◌-◌, ◌≡◌, ◌+◌, ◌≤◌, drop}
 use Rattle.std.specs.List.{prefix_len}
 use Rattle.lp_defs.specs.Tokens.{is_run_byte}
-use Rattle.lp_lex.proofs.runs.front_run.Given as goal
+use Rattle.lp_lex.proofs.runs.run_len.Given as goal
 
 abbrev pub invariant-loop-len : goal.invariant-loop-len
 invariant-loop-len l = record { in_range : l.len ≤ length l.bytes; passed : prefix_len is_run_byte l.bytes ≡ l.len + prefix_len is_run_byte (drop l.len l.bytes) }
