@@ -1,251 +1,497 @@
--- The coefficient of a variable, and the terms with another one, where entries that fall by variable stand for the terms.
-use Rattle.std.proofs.Common.{◌≡◌, refl, sym, ◌∙◌, ap, subst, arith, ℕ, ◌+◌, ◌<◌, ◌≤◌, ◌==◌, nat_lt, Bool, true, false, if◌then◌else◌}
-use Rattle.std.proofs.Common.{ℤ, pos, negsuc, unsigned_abs, List, [], ◌∷◌, ◌++◌, length, All, Option, Some, None, is_some, unwrap_or, cond}
-use Rattle.std.specs.BTreeMap.{insert_entry, is_at}
-use Rattle.std.specs.List.{AllByRecursion}
-use Rattle.std.specs.List.Sorted.{IsStrictlySortedBy}
-use Rattle.std.specs.Map.{keys_of, lookup, remove_entry}
-use Rattle.std.specs.Ordering.{is_eq, match_ordering, nat_cmp}
-use Rattle.std.specs.declared.cmp.Ordering.{Ordering}
+-- Coefficients by variable, and the terms that they stand for.
+use Rattle.std.proofs.Common.{◌≡◌, ◌≢◌, refl, sym, ◌∙◌, ap, ap₂, subst, arith, ℕ, zero, suc, ◌+◌, ◌-◌, ◌<◌, ◌≤◌, ◌==◌, nat_lt, Bool, true, false, if◌then◌else◌}
+use Rattle.std.proofs.Common.{ℤ, pos, negsuc, unsigned_abs, List, [], ◌∷◌, ◌++◌, length, set, get_or, cond}
+use Rattle.std.proofs.lemmas.Bool.{cond-false, cond-true, eq-eqb, eqb-false, eqb-true, false≢true, le-ltb, lt-ltb, ltb-false, ne_eqb}
+use Rattle.std.specs.List.Sorted.{IsPermutation, IsSorted}
+use Rattle.std.specs.Ordering.{is_lt, nat_cmp}
 use Rattle.std.specs.declared.cmp.Ordering.TheVariants.{Equal, Greater, Less}
-use Rattle.std.specs.declared.cmp.Reverse.{Reverse}
-use Rattle.std.proofs.lemmas.Bool.{cond-false, cond-true, eq-eqb, le-ltb, lt-ltb, ne_eqb}
-use Rattle.std.proofs.lemmas.Cmp.{ranked}
-use Rattle.std.proofs.lemmas.List.{append-nil, length_push}
-use Rattle.std.proofs.lemmas.List.Elements.{All-head, All-nil, All-push, All-tail}
-use Rattle.std.proofs.lemmas.Map.Keys.{sorted_head, sorted_tail}
+use Rattle.std.proofs.Math.ListN.{get_or-append}
+use Rattle.std.proofs.lemmas.List.{get_or-set_other, get_or-set_same, get_or_default, get_or_push, length-set, length_push}
+use Rattle.std.proofs.lemmas.List.Elements.{All-nil, All-push}
+use Rattle.std.proofs.lemmas.List.Sorted.{All-permutation, Contains-permutation}
 use Rattle.frac128.specs.Fraction.{Fraction, zero_value}
 use Rattle.model_data.specs.declared.model.Term.{Term}
 use Rattle.lp_defs.specs.Draft.{before_terms, coefficient_in, with_coefficient}
-use Rattle.lp_parse.specs.Terms.{term_of, terms_of}
+use Rattle.lp_parse.specs.Terms.{AreBelow, AreNamedFrom, AreRising, AreTidy, IsLonger, IsNamedFrom, IsTable, named_with, terms_from, terms_of, tidied, weight}
+
+abbrev pub IsNone : Fraction → Type 0
+IsNone x = x.num ≡ pos 0
+
+abbrev term : ℕ → Fraction → Term
+term var x = record { var = var; coef = x }
 
 abs_zero : (z : ℤ) → unsigned_abs z ≡ 0 → z ≡ pos 0
 abs_zero (pos n) e = ap pos e
 abs_zero (negsuc n) e = absurd (omega arith)
 
-before_zero : (var : ℕ) (x : Fraction) (terms : List Term) → x.num ≡ pos 0 → before_terms var x terms ≡ terms
-before_zero var x terms e = cond-true (unsigned_abs x.num == 0) terms (record { var = var; coef = x } ∷ terms) (ap (λ (z : ℤ). unsigned_abs z == 0) e)
+pub before_none : (var : ℕ) (x : Fraction) (terms : List Term) → IsNone x → before_terms var x terms ≡ terms
+before_none var x terms e = cond-true (unsigned_abs x.num == 0) terms (term var x ∷ terms) (ap (λ (z : ℤ). unsigned_abs z == 0) e)
 
-before_some : (var : ℕ) (x : Fraction) (terms : List Term) → (x.num ≡ pos 0 → ⊥) → before_terms var x terms ≡ record { var = var; coef = x } ∷ terms
+pub before_some : (var : ℕ) (x : Fraction) (terms : List Term) → (IsNone x → ⊥) → before_terms var x terms ≡ term var x ∷ terms
 before_some var x terms some =
-    cond-false (unsigned_abs x.num == 0) terms (record { var = var; coef = x } ∷ terms) (ne_eqb (unsigned_abs x.num) 0 (λ e. some (abs_zero x.num e)))
+    cond-false (unsigned_abs x.num == 0) terms (term var x ∷ terms) (ne_eqb (unsigned_abs x.num) 0 (λ e. some (abs_zero x.num e)))
 
-before_append : (var : ℕ) (x : Fraction) (xs ys : List Term) → before_terms var x (xs ++ ys) ≡ before_terms var x xs ++ ys
-before_append var x xs ys = by (unsigned_abs x.num == 0) where
-  new : Term
-  new = record { var = var; coef = x }
+pub weight_none : (x : Fraction) → IsNone x → weight x ≡ 0
+weight_none x e = cond-true (unsigned_abs x.num == 0) 0 1 (ap (λ (z : ℤ). unsigned_abs z == 0) e)
 
-  by : (b : Bool) → (if b then xs ++ ys else new ∷ (xs ++ ys)) ≡ (if b then xs else new ∷ xs) ++ ys
-  by true = refl
-  by false = refl
+pub weight_some : (x : Fraction) → (IsNone x → ⊥) → weight x ≡ 1
+weight_some x some = cond-false (unsigned_abs x.num == 0) 0 1 (ne_eqb (unsigned_abs x.num) 0 (λ e. some (abs_zero x.num e)))
 
--- terms before the variable stay and don't count
-abbrev AreBefore : ℕ → List Term → Type 0
-AreBefore var terms = All (λ t. t.var < var) terms
-
-before_more : (low var : ℕ) (terms : List Term) → low < var → AreBefore low terms → AreBefore var terms
-before_more low var terms lt before k d within = let less = before k d within in omega (arith, lt, less)
-
-coefficient_front : (var : ℕ) (xs ys : List Term) → AreBefore var xs → coefficient_in var (xs ++ ys) ≡ coefficient_in var ys
-coefficient_front var [] ys before = refl
-coefficient_front var (t ∷ xs) ys before =
-    let first = All-head (λ (s : Term). s.var < var) t xs before in
-    cond-false (t.var == var) t.coef (coefficient_in var (xs ++ ys)) (ne_eqb t.var var (λ e. omega arith))
-    ∙ coefficient_front var xs ys (All-tail (λ (s : Term). s.var < var) t xs before)
-
-with_front : (var : ℕ) (x : Fraction) (xs ys : List Term) → AreBefore var xs → with_coefficient var x (xs ++ ys) ≡ xs ++ with_coefficient var x ys
-with_front var x [] ys before = refl
-with_front var x (t ∷ xs) ys before =
-    let first = All-head (λ (s : Term). s.var < var) t xs before in
-    cond-true (nat_lt t.var var) (t ∷ with_coefficient var x (xs ++ ys))
-    (if t.var == var then before_terms var x (xs ++ ys) else before_terms var x (t ∷ (xs ++ ys))) (lt-ltb t.var var first)
-    ∙ ap (λ (l : List Term). t ∷ l) (with_front var x xs ys (All-tail (λ (s : Term). s.var < var) t xs before))
-
-with_end : (var : ℕ) (x : Fraction) (xs : List Term) → AreBefore var xs → with_coefficient var x xs ≡ xs ++ before_terms var x []
-with_end var x xs before = ap (with_coefficient var x) (sym (append-nil xs)) ∙ with_front var x xs [] before
-
-with_none : (var : ℕ) (x : Fraction) (xs : List Term) → x.num ≡ pos 0 → AreBefore var xs → with_coefficient var x xs ≡ xs
-with_none var x xs none before = with_end var x xs before ∙ ap (λ (l : List Term). xs ++ l) (before_zero var x [] none) ∙ append-nil xs
-
--- the last term is the variable's
-with_same : (var : ℕ) (x : Fraction) (xs : List Term) (t : Term) → AreBefore var xs → t.var ≡ var
-    → with_coefficient var x (xs ++ t ∷ []) ≡ xs ++ before_terms var x []
-with_same var x xs t before same =
-    with_front var x xs (t ∷ []) before
-    ∙ ap (λ (l : List Term). xs ++ l) (
-    cond-false (nat_lt t.var var) (t ∷ with_coefficient var x [])
-    (if t.var == var then before_terms var x [] else before_terms var x (t ∷ [])) (le-ltb t.var var (omega arith))
-    ∙ cond-true (t.var == var) (before_terms var x []) (before_terms var x (t ∷ [])) (eq-eqb t.var var same))
-
--- a term behind the variable stays behind
-with_later : (var : ℕ) (x : Fraction) (xs : List Term) (t : Term) → var < t.var
-    → with_coefficient var x (xs ++ t ∷ []) ≡ with_coefficient var x xs ++ t ∷ []
-with_later var x [] t later =
-    cond-false (nat_lt t.var var) (t ∷ with_coefficient var x [])
-    (if t.var == var then before_terms var x [] else before_terms var x (t ∷ [])) (le-ltb t.var var (omega arith))
-    ∙ cond-false (t.var == var) (before_terms var x []) (before_terms var x (t ∷ [])) (ne_eqb t.var var (λ e. omega arith))
-    ∙ before_append var x [] (t ∷ [])
-with_later var x (s ∷ xs) t later = by (with_later var x xs t later) (nat_lt s.var var) (s.var == var) where
-  by : with_coefficient var x (xs ++ t ∷ []) ≡ with_coefficient var x xs ++ t ∷ [] → (less same : Bool)
-      → (if less then s ∷ with_coefficient var x (xs ++ t ∷ [])
-      else (if same then before_terms var x (xs ++ t ∷ []) else before_terms var x (s ∷ (xs ++ t ∷ []))))
-      ≡ (if less then s ∷ with_coefficient var x xs else (if same then before_terms var x xs else before_terms var x (s ∷ xs))) ++ t ∷ []
-  by rest true same = ap (λ (l : List Term). s ∷ l) rest
-  by rest false true = before_append var x xs (t ∷ [])
-  by rest false false = before_append var x (s ∷ xs) (t ∷ [])
-
-coefficient_other : (var : ℕ) (xs : List Term) (t : Term) → (t.var ≡ var → ⊥) → coefficient_in var (xs ++ t ∷ []) ≡ coefficient_in var xs
-coefficient_other var [] t apart = cond-false (t.var == var) t.coef zero_value (ne_eqb t.var var apart)
-coefficient_other var (s ∷ xs) t apart = ap (λ (x : Fraction). if s.var == var then s.coef else x) (coefficient_other var xs t apart)
-
--- there is one term more at most
-length_before : (var : ℕ) (x : Fraction) (terms : List Term) → length (before_terms var x terms) ≤ length terms + 1
+length_before : (var : ℕ) (x : Fraction) (terms : List Term) → length (before_terms var x terms) ≡ weight x + length terms
 length_before var x terms = by (unsigned_abs x.num == 0) where
-  by : (b : Bool) → length (if b then terms else (record { var = var; coef = x } ∷ terms)) ≤ length terms + 1
+  by : (b : Bool) → length (if b then terms else (term var x ∷ terms)) ≡ (if b then 0 else 1) + length terms
   by true = omega arith
   by false = omega arith
 
+-- a test of a coefficient, by what it says of the terms
+tested : (P : List Term → Type 0) (var : ℕ) (x : Fraction) (terms : List Term)
+    → (IsNone x → P terms) → ((IsNone x → ⊥) → P (term var x ∷ terms)) → P (before_terms var x terms)
+tested P var x terms none some = by (unsigned_abs x.num == 0) refl where
+  by : (b : Bool) → (unsigned_abs x.num == 0) ≡ b → P (if b then terms else (term var x ∷ terms))
+  by true e = none (abs_zero x.num (eqb-true (unsigned_abs x.num) 0 e))
+  by false e = some (λ (zero : IsNone x). false≢true (sym e ∙ ap (λ (z : ℤ). unsigned_abs z == 0) zero))
+
+-- the terms of later variables
+coefficient_later : (var n : ℕ) (coefs : List Fraction) → var < n → coefficient_in var (terms_from n coefs) ≡ zero_value
+coefficient_later var n [] later = refl
+coefficient_later var n (x ∷ coefs) later =
+    tested (λ l. coefficient_in var l ≡ zero_value) n x (terms_from (suc n) coefs)
+    (λ none. coefficient_later var (suc n) coefs (omega arith))
+    (λ some. cond-false (n == var) x (coefficient_in var (terms_from (suc n) coefs)) (ne_eqb n var (λ e. omega arith))
+    ∙ coefficient_later var (suc n) coefs (omega arith))
+
+with_later : (var n : ℕ) (y : Fraction) (coefs : List Fraction) → var < n
+    → with_coefficient var y (terms_from n coefs) ≡ before_terms var y (terms_from n coefs)
+with_later var n y [] later = refl
+with_later var n y (x ∷ coefs) later =
+    tested (λ l. with_coefficient var y l ≡ before_terms var y l) n x (terms_from (suc n) coefs)
+    (λ none. with_later var (suc n) y coefs (omega arith))
+    (λ some. cond-false (nat_lt n var) (term n x ∷ with_coefficient var y (terms_from (suc n) coefs))
+    (if n == var then before_terms var y (terms_from (suc n) coefs) else before_terms var y (term n x ∷ terms_from (suc n) coefs))
+    (le-ltb n var (omega arith))
+    ∙ cond-false (n == var) (before_terms var y (terms_from (suc n) coefs)) (before_terms var y (term n x ∷ terms_from (suc n) coefs))
+    (ne_eqb n var (λ e. omega arith)))
+
+-- the coefficient of a variable
+coefficient_from : (n k : ℕ) (coefs : List Fraction) → AreTidy coefs → coefficient_in (n + k) (terms_from n coefs) ≡ get_or coefs k zero_value
+coefficient_from n k [] tidy = refl
+coefficient_from n zero (x ∷ coefs) tidy =
+    let same : n + 0 ≡ n = omega arith in
+    ap (λ (v : ℕ). coefficient_in v (terms_from n (x ∷ coefs))) same
+    ∙ tested (λ l. coefficient_in n l ≡ x) n x (terms_from (suc n) coefs)
+    (λ none. coefficient_later n (suc n) coefs (omega arith) ∙ sym (tidy 0 none))
+    (λ some. cond-true (n == n) x (coefficient_in n (terms_from (suc n) coefs)) (eq-eqb n n refl))
+coefficient_from n (suc k) (x ∷ coefs) tidy =
+    let same : n + suc k ≡ suc n + k = omega arith in
+    let rest = ap (λ (v : ℕ). coefficient_in v (terms_from (suc n) coefs)) same ∙ coefficient_from (suc n) k coefs (λ var. tidy (suc var)) in
+    tested (λ l. coefficient_in (n + suc k) l ≡ get_or coefs k zero_value) n x (terms_from (suc n) coefs)
+    (λ none. rest)
+    (λ some. cond-false (n == n + suc k) x (coefficient_in (n + suc k) (terms_from (suc n) coefs)) (ne_eqb n (n + suc k) (λ e. omega arith)) ∙ rest)
+
+pub coefficient_of : (var : ℕ) (coefs : List Fraction) → AreTidy coefs → get_or coefs var zero_value ≡ coefficient_in var (terms_of coefs)
+coefficient_of var coefs tidy = sym (ap (λ (v : ℕ). coefficient_in v (terms_of coefs)) (same) ∙ coefficient_from 0 var coefs tidy) where
+  same : var ≡ 0 + var
+  same = omega arith
+
+-- another coefficient of a variable
+with_from : (n k : ℕ) (y : Fraction) (coefs : List Fraction) → k < length coefs
+    → with_coefficient (n + k) y (terms_from n coefs) ≡ terms_from n (set coefs k y)
+with_from n k y [] within = absurd (omega arith)
+with_from n zero y (x ∷ coefs) within =
+    let same : n + 0 ≡ n = omega arith in
+    ap (λ (v : ℕ). with_coefficient v y (terms_from n (x ∷ coefs))) same
+    ∙ tested (λ l. with_coefficient n y l ≡ before_terms n y (terms_from (suc n) coefs)) n x (terms_from (suc n) coefs)
+    (λ none. with_later n (suc n) y coefs (omega arith))
+    (λ some. cond-false (nat_lt n n) (term n x ∷ with_coefficient n y (terms_from (suc n) coefs))
+    (if n == n then before_terms n y (terms_from (suc n) coefs) else before_terms n y (term n x ∷ terms_from (suc n) coefs))
+    (le-ltb n n (omega arith))
+    ∙ cond-true (n == n) (before_terms n y (terms_from (suc n) coefs)) (before_terms n y (term n x ∷ terms_from (suc n) coefs)) (eq-eqb n n refl))
+with_from n (suc k) y (x ∷ coefs) within =
+    let same : n + suc k ≡ suc n + k = omega arith in
+    let rest = ap (λ (v : ℕ). with_coefficient v y (terms_from (suc n) coefs)) same ∙ with_from (suc n) k y coefs (omega arith) in
+    by rest (unsigned_abs x.num == 0)
+  where
+    by : with_coefficient (n + suc k) y (terms_from (suc n) coefs) ≡ terms_from (suc n) (set coefs k y) → (b : Bool)
+        → with_coefficient (n + suc k) y (if b then terms_from (suc n) coefs else (term n x ∷ terms_from (suc n) coefs))
+        ≡ (if b then terms_from (suc n) (set coefs k y) else (term n x ∷ terms_from (suc n) (set coefs k y)))
+    by rest true = rest
+    by rest false =
+        cond-true (nat_lt n (n + suc k)) (term n x ∷ with_coefficient (n + suc k) y (terms_from (suc n) coefs))
+        (if n == n + suc k then before_terms (n + suc k) y (terms_from (suc n) coefs) else before_terms (n + suc k) y (term n x ∷ terms_from (suc n) coefs))
+        (lt-ltb n (n + suc k) (omega arith))
+        ∙ ap (λ (l : List Term). term n x ∷ l) rest
+
+pub with_set : (var : ℕ) (y : Fraction) (coefs : List Fraction) → var < length coefs → terms_of (set coefs var y) ≡ with_coefficient var y (terms_of coefs)
+with_set var y coefs within = sym (ap (λ (v : ℕ). with_coefficient v y (terms_of coefs)) same ∙ with_from 0 var y coefs within) where
+  same : var ≡ 0 + var
+  same = omega arith
+
+-- how many terms there are
+counted_from : (n k : ℕ) (y : Fraction) (coefs : List Fraction) → k < length coefs
+    → length (terms_from n (set coefs k y)) + weight (get_or coefs k zero_value) ≡ length (terms_from n coefs) + weight y
+counted_from n k y [] within = absurd (omega arith)
+counted_from n zero y (x ∷ coefs) within =
+    let old = length_before n x (terms_from (suc n) coefs) in
+    let new = length_before n y (terms_from (suc n) coefs) in
+    omega (arith, old, new)
+counted_from n (suc k) y (x ∷ coefs) within =
+    let old = length_before n x (terms_from (suc n) coefs) in
+    let new = length_before n x (terms_from (suc n) (set coefs k y)) in
+    let rest = counted_from (suc n) k y coefs (omega arith) in
+    omega (arith, old, new, rest)
+
+counted_with : (n k : ℕ) (y : Fraction) (coefs : List Fraction)
+    → length (with_coefficient (n + k) y (terms_from n coefs)) + weight (get_or coefs k zero_value) ≡ length (terms_from n coefs) + weight y
+counted_with n k y [] = let new = length_before (n + k) y [] in omega (arith, new)
+counted_with n zero y (x ∷ coefs) =
+    let set_is = ap length (with_from n 0 y (x ∷ coefs) (omega arith)) in
+    let new = counted_from n 0 y (x ∷ coefs) (omega arith) in
+    omega (arith, set_is, new)
+counted_with n (suc k) y (x ∷ coefs) =
+    let same : n + suc k ≡ suc n + k = omega arith in
+    let rest = ap (λ (v : ℕ). length (with_coefficient v y (terms_from (suc n) coefs)) + weight (get_or coefs k zero_value)) same
+    ∙ counted_with (suc n) k y coefs in
+    by rest (unsigned_abs x.num == 0)
+  where
+    by : length (with_coefficient (n + suc k) y (terms_from (suc n) coefs)) + weight (get_or coefs k zero_value)
+        ≡ length (terms_from (suc n) coefs) + weight y → (b : Bool)
+        → length (with_coefficient (n + suc k) y (if b then terms_from (suc n) coefs else (term n x ∷ terms_from (suc n) coefs))) + weight (get_or coefs k zero_value)
+        ≡ length (if b then terms_from (suc n) coefs else (term n x ∷ terms_from (suc n) coefs)) + weight y
+    by rest true = rest
+    by rest false =
+        let first = ap length (cond-true (nat_lt n (n + suc k)) (term n x ∷ with_coefficient (n + suc k) y (terms_from (suc n) coefs))
+        (if n == n + suc k then before_terms (n + suc k) y (terms_from (suc n) coefs) else before_terms (n + suc k) y (term n x ∷ terms_from (suc n) coefs))
+        (lt-ltb n (n + suc k) (omega arith))) in
+        omega (arith, first, rest)
+
+-- without the term of a variable
+pub emptied : (var : ℕ) (coefs : List Fraction) → var < length coefs
+    → length (terms_of (set coefs var zero_value)) + weight (get_or coefs var zero_value) ≡ length (terms_of coefs)
+emptied var coefs within = let all = counted_from 0 var zero_value coefs within in omega (arith, all)
+
+-- how many terms there are with another coefficient of a variable
+pub counted : (var : ℕ) (y : Fraction) (coefs : List Fraction)
+    → length (with_coefficient var y (terms_of coefs)) + weight (get_or coefs var zero_value) ≡ length (terms_of coefs) + weight y
+counted var y coefs =
+    let same : var ≡ 0 + var = omega arith in
+    ap (λ (v : ℕ). length (with_coefficient v y (terms_of coefs)) + weight (get_or coefs var zero_value)) same ∙ counted_with 0 var y coefs
+
+length_from : (n : ℕ) (coefs : List Fraction) → length (terms_from n coefs) ≤ length coefs
+length_from n [] = omega arith
+length_from n (x ∷ coefs) =
+    let rest = length_from (suc n) coefs in
+    let count = length_before n x (terms_from (suc n) coefs) in
+    by (unsigned_abs x.num == 0) rest
+  where
+    by : (b : Bool) → length (terms_from (suc n) coefs) ≤ length coefs
+        → length (if b then terms_from (suc n) coefs else (term n x ∷ terms_from (suc n) coefs)) ≤ length (x ∷ coefs)
+    by true rest = omega (arith, rest)
+    by false rest = omega (arith, rest)
+
+pub length_terms : (coefs : List Fraction) → length (terms_of coefs) ≤ length coefs
+length_terms coefs = length_from 0 coefs
+
+-- the first term, and those behind it
+first_from : (n k : ℕ) (coefs : List Fraction) → k < length coefs → ((i : ℕ) → i < k → IsNone (get_or coefs i zero_value))
+    → (IsNone (get_or coefs k zero_value) → ⊥)
+    → terms_from n coefs ≡ term (n + k) (get_or coefs k zero_value) ∷ terms_from n (set coefs k zero_value)
+first_from n k [] within before some = absurd (omega arith)
+first_from n zero (x ∷ coefs) within before some =
+    let same : n ≡ n + 0 = omega arith in
+    before_some n x (terms_from (suc n) coefs) some
+    ∙ ap (λ (v : ℕ). term v x ∷ terms_from (suc n) coefs) same
+first_from n (suc k) (x ∷ coefs) within before some =
+    let same : suc n + k ≡ n + suc k = omega arith in
+    let none = before 0 (omega arith) in
+    before_none n x (terms_from (suc n) coefs) none
+    ∙ first_from (suc n) k coefs (omega arith) (λ i less. before (suc i) (omega arith)) some
+    ∙ ap₂ (λ (v : ℕ) (l : List Term). term v (get_or coefs k zero_value) ∷ l) same
+    (sym (before_none n x (terms_from (suc n) (set coefs k zero_value)) none))
+
+pub first_term : (k : ℕ) (coefs : List Fraction) → k < length coefs → ((i : ℕ) → i < k → IsNone (get_or coefs i zero_value))
+    → (IsNone (get_or coefs k zero_value) → ⊥)
+    → terms_of coefs ≡ term k (get_or coefs k zero_value) ∷ terms_of (set coefs k zero_value)
+first_term k coefs within before some =
+    let same : 0 + k ≡ k = omega arith in
+    first_from 0 k coefs within before some
+    ∙ ap (λ (v : ℕ). term v (get_or coefs k zero_value) ∷ terms_of (set coefs k zero_value)) same
+
+none_from : (n : ℕ) (coefs : List Fraction) → ((var : ℕ) → get_or coefs var zero_value ≡ zero_value) → terms_from n coefs ≡ []
+none_from n [] none = refl
+none_from n (x ∷ coefs) none =
+    before_none n x (terms_from (suc n) coefs) (ap (λ (y : Fraction). y.num) (none 0)) ∙ none_from (suc n) coefs (λ var. none (suc var))
+
+pub no_terms : (coefs : List Fraction) → ((var : ℕ) → get_or coefs var zero_value ≡ zero_value) → terms_of coefs ≡ []
+no_terms coefs none = none_from 0 coefs none
+
+-- one more coefficient of 0
+pushed_from : (n : ℕ) (coefs : List Fraction) → terms_from n (coefs ++ zero_value ∷ []) ≡ terms_from n coefs
+pushed_from n [] = refl
+pushed_from n (x ∷ coefs) = ap (before_terms n x) (pushed_from (suc n) coefs)
+
+pushed_at : (coefs : List Fraction) (var : ℕ) → get_or (coefs ++ zero_value ∷ []) var zero_value ≡ get_or coefs var zero_value
+pushed_at [] zero = refl
+pushed_at [] (suc var) = refl
+pushed_at (x ∷ coefs) zero = refl
+pushed_at (x ∷ coefs) (suc var) = pushed_at coefs var
+
+pub longer_itself : (coefs : List Fraction) → IsLonger coefs coefs
+longer_itself coefs = record { same = λ var. refl; longer = omega arith; same_terms = λ n. refl }
+
+pub longer_push : (short long : List Fraction) → IsLonger short long → IsLonger short (long ++ zero_value ∷ [])
+longer_push short long so_far =
+    let most = so_far.longer in
+    let more = length_push long zero_value in
+    record {
+      same = λ var. pushed_at long var ∙ so_far.same var;
+      longer = omega (arith, most, more);
+      same_terms = λ n. pushed_from n long ∙ so_far.same_terms n;
+    }
+
+-- there is one term more at most
 pub length_with : (var : ℕ) (x : Fraction) (terms : List Term) → length (with_coefficient var x terms) ≤ length terms + 1
-length_with var x [] = length_before var x []
+length_with var x [] = most var x [] where
+  most : (var : ℕ) (x : Fraction) (terms : List Term) → length (before_terms var x terms) ≤ length terms + 1
+  most var x terms = tested (λ l. length l ≤ length terms + 1) var x terms (λ none. omega arith) (λ some. omega arith)
 length_with var x (t ∷ terms) = by (length_with var x terms) (nat_lt t.var var) (t.var == var) where
+  most : (var : ℕ) (x : Fraction) (terms : List Term) → length (before_terms var x terms) ≤ length terms + 1
+  most var x terms = tested (λ l. length l ≤ length terms + 1) var x terms (λ none. omega arith) (λ some. omega arith)
+
   by : length (with_coefficient var x terms) ≤ length terms + 1 → (less same : Bool)
       → length (if less then t ∷ with_coefficient var x terms
       else (if same then before_terms var x terms else before_terms var x (t ∷ terms))) ≤ length (t ∷ terms) + 1
   by rest true same = omega (arith, rest)
-  by rest false true = let same_length = length_before var x terms in omega (arith, same_length)
-  by rest false false = length_before var x (t ∷ terms)
+  by rest false true = let same_length = most var x terms in omega (arith, same_length)
+  by rest false false = most var x (t ∷ terms)
 
--- entries that fall by variable
-abbrev pub falling : Reverse ℕ → Reverse ℕ → Ordering
-falling x y = nat_cmp y.0 x.0
+-- coefficients of 0, however they are written
+with_none : (var : ℕ) (x y : Fraction) → IsNone x → IsNone y → (terms : List Term) → with_coefficient var x terms ≡ with_coefficient var y terms
+with_none var x y x_none y_none [] = before_none var x [] x_none ∙ sym (before_none var y [] y_none)
+with_none var x y x_none y_none (t ∷ terms) = by (with_none var x y x_none y_none terms) (nat_lt t.var var) (t.var == var) where
+  by : with_coefficient var x terms ≡ with_coefficient var y terms → (less same : Bool)
+      → (if less then t ∷ with_coefficient var x terms else (if same then before_terms var x terms else before_terms var x (t ∷ terms)))
+      ≡ (if less then t ∷ with_coefficient var y terms else (if same then before_terms var y terms else before_terms var y (t ∷ terms)))
+  by rest true same = ap (λ (l : List Term). t ∷ l) rest
+  by rest false true = before_none var x terms x_none ∙ sym (before_none var y terms y_none)
+  by rest false false = before_none var x (t ∷ terms) x_none ∙ sym (before_none var y (t ∷ terms) y_none)
 
-abbrev pub AreFalling : List (Reverse ℕ × Fraction) → Type 0
-AreFalling es = IsStrictlySortedBy falling (keys_of es)
+by_test : (P : Fraction → Type 0) (x : Fraction) → (IsNone x → P zero_value) → ((IsNone x → ⊥) → P x) → P (tidied x)
+by_test P x none some = by (unsigned_abs x.num == 0) refl where
+  by : (b : Bool) → (unsigned_abs x.num == 0) ≡ b → P (if b then zero_value else x)
+  by true e = none (abs_zero x.num (eqb-true (unsigned_abs x.num) 0 e))
+  by false e = some (λ (zero : IsNone x). false≢true (sym e ∙ ap (λ (z : ℤ). unsigned_abs z == 0) zero))
 
-entries_before : (var : ℕ) (es : List (Reverse ℕ × Fraction)) → AllByRecursion (λ y. nat_cmp y.0 var ≡ Less) (keys_of es) → AreBefore var (terms_of es)
-entries_before var [] all = All-nil (λ (t : Term). t.var < var)
-entries_before var (e ∷ es) all =
-    All-push (λ (t : Term). t.var < var) (terms_of es) (term_of e) (entries_before var es all.1) (ranked e.0.0 var Less (sym all.0))
+pub tidied_none : (x : Fraction) → IsNone x → zero_value ≡ tidied x
+tidied_none x none = by_test (λ y. zero_value ≡ y) x (λ e. refl) (λ some. absurd (some none))
 
-others_before : (e : Reverse ℕ × Fraction) (es : List (Reverse ℕ × Fraction)) → AreFalling (e ∷ es) → AreBefore e.0.0 (terms_of es)
-others_before e es sorted = entries_before e.0.0 es (sorted_head falling e.0 (keys_of es) sorted)
+pub tidied_some : (x : Fraction) → (IsNone x → ⊥) → x ≡ tidied x
+tidied_some x some = by_test (λ y. x ≡ y) x (λ e. absurd (some e)) (λ e. refl)
 
-all_before : (var : ℕ) (e : Reverse ℕ × Fraction) (es : List (Reverse ℕ × Fraction)) → AreFalling (e ∷ es) → e.0.0 < var
-    → AreBefore var (terms_of (e ∷ es))
-all_before var e es sorted less =
-    All-push (λ (t : Term). t.var < var) (terms_of es) (term_of e) (before_more e.0.0 var (terms_of es) less (others_before e es sorted)) less
+with_tidied : (var : ℕ) (x : Fraction) (terms : List Term) → with_coefficient var (tidied x) terms ≡ with_coefficient var x terms
+with_tidied var x terms =
+    by_test (λ y. with_coefficient var y terms ≡ with_coefficient var x terms) x (λ none. with_none var zero_value x refl none terms) (λ some. refl)
 
-pub length-terms_of : (es : List (Reverse ℕ × Fraction)) → length (terms_of es) ≡ length es
-length-terms_of [] = refl
-length-terms_of (e ∷ es) = let push = length_push (terms_of es) (term_of e) in let rest = length-terms_of es in omega (arith, push, rest)
+tidied_tidy : (x : Fraction) → IsNone (tidied x) → tidied x ≡ zero_value
+tidied_tidy x = by_test (λ y. IsNone y → y ≡ zero_value) x (λ none e. refl) (λ some e. absurd (some e))
 
-pub terms_of-push : (es : List (Reverse ℕ × Fraction)) (e : Reverse ℕ × Fraction) → terms_of (es ++ e ∷ []) ≡ term_of e ∷ terms_of es
-terms_of-push [] e = refl
-terms_of-push (first ∷ es) e = ap (λ (l : List Term). l ++ term_of first ∷ []) (terms_of-push es e)
+-- a coefficient of 0 is set to 0
+set_none : (n k : ℕ) (coefs : List Fraction) → IsNone (get_or coefs k zero_value) → terms_from n (set coefs k zero_value) ≡ terms_from n coefs
+set_none n k [] none = refl
+set_none n zero (x ∷ coefs) none = sym (before_none n x (terms_from (suc n) coefs) none)
+set_none n (suc k) (x ∷ coefs) none = ap (before_terms n x) (set_none (suc n) k coefs none)
 
-abbrev pub one_if : Option Fraction → ℕ
-one_if o = if is_some o then 1 else 0
+-- the next variable's term, and the others
+pub next_term : (k : ℕ) (named : List ℕ) (coefs : List Fraction) (var : ℕ) → k < length named → get_or named k var ≡ var → AreRising named
+    → AreNamedFrom k named coefs → var < length coefs
+    → before_terms var (get_or coefs var zero_value) [] ++ terms_of (set coefs var zero_value) ≡ terms_of coefs
+next_term k named coefs var within is rising named_all below =
+    tested (λ l. l ++ terms_of (set coefs var zero_value) ≡ terms_of coefs) var (get_or coefs var zero_value) []
+    (λ none. set_none 0 var coefs none)
+    (λ some. sym (first_term var coefs below before some))
+  where
+    before : (i : ℕ) → i < var → IsNone (get_or coefs i zero_value)
+    before i less = ap (λ (x : Fraction). x.num) (named_all i (λ at.
+        let order = rising k at.0 var at.1 at.2 in
+        let there = get_or_default named at.0 var i at.2 ∙ at.3 in
+        omega (arith, order, there, is, less)))
 
-module _ (k : Reverse ℕ) where
-  abbrev found : List (Reverse ℕ × Fraction) → Option Fraction
-  found es = lookup (is_at (falling k)) es
+pub named_next : (k : ℕ) (named : List ℕ) (coefs : List Fraction) (var : ℕ) → k < length named → get_or named k var ≡ var
+    → AreNamedFrom k named coefs → var < length coefs → AreNamedFrom (k + 1) named (set coefs var zero_value)
+named_next k named coefs var within is named_all below = λ other missing. both other missing (other == var) refl where
+  both : (other : ℕ) → (IsNamedFrom (k + 1) named other → ⊥) → (b : Bool) → (other == var) ≡ b
+      → get_or (set coefs var zero_value) other zero_value ≡ zero_value
+  both other missing true e =
+      let same = eqb-true other var e in
+      ap (λ (v : ℕ). get_or (set coefs var zero_value) v zero_value) same ∙ get_or-set_same coefs var zero_value zero_value below
+  both other missing false e =
+      let apart : other ≢ var = eqb-false other var e in
+      get_or-set_other coefs var other zero_value zero_value apart
+      ∙ named_all other (λ at. missing (at.0, later at, at.2, at.3))
+    where
+      later : (at : IsNamedFrom k named other) → k + 1 ≤ at.0
+      later at = step (at.0 == k) refl where
+        step : (b : Bool) → (at.0 == k) ≡ b → k + 1 ≤ at.0
+        step true f =
+            let at_k = eqb-true at.0 k f in
+            let there : get_or named k other ≡ other = ap (λ (j : ℕ). get_or named j other) (sym at_k) ∙ at.3 in
+            absurd (eqb-false other var e (sym there ∙ get_or_default named k other var within ∙ is))
+        step false f = let apart_k : at.0 ≢ k = eqb-false at.0 k f in let least = at.1 in omega (arith, least, apart_k)
 
-  pub coefficient_found : (es : List (Reverse ℕ × Fraction)) → AreFalling es → unwrap_or (found es) zero_value ≡ coefficient_in k.0 (terms_of es)
-  coefficient_found [] sorted = refl
-  coefficient_found (e ∷ es) sorted = by (coefficient_found es (sorted_tail falling e.0 (keys_of es) sorted)) (falling k e.0) refl where
-    by : unwrap_or (found es) zero_value ≡ coefficient_in k.0 (terms_of es) → (r : Ordering) → falling k e.0 ≡ r
-        → unwrap_or (cond (is_eq r) (Some e.1) (found es)) zero_value ≡ coefficient_in k.0 (terms_of es ++ term_of e ∷ [])
-    by rest Less at =
-        let less = ranked e.0.0 k.0 Less (sym at) in
-        rest ∙ sym (coefficient_other k.0 (terms_of es) (term_of e) (λ same. omega arith))
-    by rest Equal at =
-        let same = ranked e.0.0 k.0 Equal (sym at) in
-        sym (coefficient_front k.0 (terms_of es) (term_of e ∷ []) (subst (λ (v : ℕ). AreBefore v (terms_of es)) same (others_before e es sorted))
-        ∙ cond-true (e.0.0 == k.0) e.1 zero_value (eq-eqb e.0.0 k.0 same))
-    by rest Greater at =
-        let more = ranked e.0.0 k.0 Greater (sym at) in
-        rest ∙ sym (coefficient_other k.0 (terms_of es) (term_of e) (λ same. omega arith))
+-- sorted numbers rise
+not_less : (x y : ℕ) → is_lt (nat_cmp x y) ≡ false → y ≤ x
+not_less x y h = ltb-false x y (by (nat_lt x y) (x == y) h) where
+  by : (l e : Bool) → is_lt (cond l Less (cond e Equal Greater)) ≡ false → l ≡ false
+  by true e h = absurd cc
+  by false e h = refl
 
-  -- no entry before one that is before the variable is the variable's
-  none_found : (low : ℕ) (es : List (Reverse ℕ × Fraction)) → low < k.0 → AllByRecursion (λ y. nat_cmp y.0 low ≡ Less) (keys_of es) → found es ≡ None
-  none_found low [] lt all = refl
-  none_found low (e ∷ es) lt all =
-      let less = ranked e.0.0 low Less (sym all.0) in
-      let order : falling k e.0 ≡ Less = cond-true (nat_lt e.0.0 k.0) Less (cond (e.0.0 == k.0) Equal Greater) (lt-ltb e.0.0 k.0 (omega arith)) in
-      cond-false (is_eq (falling k e.0)) (Some e.1) (found es) (ap is_eq order) ∙ none_found low es lt all.1
+rises : (steps i : ℕ) (named : List ℕ) (d : ℕ) → IsSorted nat_cmp named → i + steps < length named → get_or named i d ≤ get_or named (i + steps) d
+rises zero i named d sorted within = let same : i + 0 ≡ i = omega arith in rw same (omega arith)
+rises (suc steps) i named d sorted within =
+    let same : i + suc steps ≡ i + steps + 1 = omega arith in
+    let rest = rises steps i named d sorted (omega arith) in
+    let last = not_less (get_or named (i + steps + 1) d) (get_or named (i + steps) d) (sorted (i + steps) d (omega arith) (omega arith)) in
+    rw same (omega (arith, rest, last))
 
-  module _ (x : Fraction) where
-    abbrev inserted : List (Reverse ℕ × Fraction) → List (Reverse ℕ × Fraction)
-    inserted es = insert_entry falling es k x
+pub sorted_rising : (named : List ℕ) → IsSorted nat_cmp named → AreRising named
+sorted_rising named sorted = λ i j d order within.
+    let same : i + (j - i) ≡ j = omega arith in
+    subst (λ (k : ℕ). get_or named i d ≤ get_or named k d) same (rises (j - i) i named d sorted (omega arith))
 
-    abbrev removed : List (Reverse ℕ × Fraction) → List (Reverse ℕ × Fraction)
-    removed es = remove_entry (is_at (falling k)) es
+-- a table with its variables in another order
+pub table_sorted : (coefs : List Fraction) (named sorted : List ℕ) (count : ℕ) → IsPermutation named sorted → IsTable coefs named count
+    → IsTable coefs sorted count
+table_sorted coefs named sorted count same table = record {
+  tidy = table.tidy;
+  named_all = λ var missing. table.named_all var (λ at.
+      let there = Contains-permutation named sorted var same (at.0, at.2, at.3) in
+      missing (there.0, omega arith, there.1, there.2));
+  below = All-permutation (λ var. var < length coefs) named sorted same table.below;
+  counted = table.counted;
+}
 
-    pub with_inserted : (es : List (Reverse ℕ × Fraction)) → AreFalling es → (x.num ≡ pos 0 → ⊥) → terms_of (inserted es) ≡ with_coefficient k.0 x (terms_of es)
-    with_inserted [] sorted some = sym (before_some k.0 x [] some)
-    with_inserted (e ∷ es) sorted some = by (with_inserted es (sorted_tail falling e.0 (keys_of es) sorted) some) (falling k e.0) refl where
-      by : terms_of (inserted es) ≡ with_coefficient k.0 x (terms_of es) → (r : Ordering) → falling k e.0 ≡ r
-          → terms_of (match_ordering r ((k, x) ∷ e ∷ es) ((e.0, x) ∷ es) (e ∷ inserted es)) ≡ with_coefficient k.0 x (terms_of es ++ term_of e ∷ [])
-      by rest Less at =
-          let before = all_before k.0 e es sorted (ranked e.0.0 k.0 Less (sym at)) in
-          sym (with_end k.0 x (terms_of (e ∷ es)) before ∙ ap (λ (l : List Term). terms_of (e ∷ es) ++ l) (before_some k.0 x [] some))
-      by rest Equal at =
-          let same = ranked e.0.0 k.0 Equal (sym at) in
-          ap (λ (v : ℕ). terms_of es ++ record { var = v; coef = x } ∷ []) same
-          ∙ sym (with_same k.0 x (terms_of es) (term_of e) (subst (λ (v : ℕ). AreBefore v (terms_of es)) same (others_before e es sorted)) same
-          ∙ ap (λ (l : List Term). terms_of es ++ l) (before_some k.0 x [] some))
-      by rest Greater at =
-          ap (λ (l : List Term). l ++ term_of e ∷ []) rest
-          ∙ sym (with_later k.0 x (terms_of es) (term_of e) (ranked e.0.0 k.0 Greater (sym at)))
+-- no variable is named
+pub empty_table : (coefs : List Fraction) → ((var : ℕ) → get_or coefs var zero_value ≡ zero_value) → IsTable coefs [] 0
+empty_table coefs none = record {
+  tidy = λ var e. none var;
+  named_all = λ var missing. none var;
+  below = All-nil (λ (var : ℕ). var < length coefs);
+  counted = sym (ap length (no_terms coefs none));
+}
 
-    pub with_removed : (es : List (Reverse ℕ × Fraction)) → AreFalling es → x.num ≡ pos 0 → terms_of (removed es) ≡ with_coefficient k.0 x (terms_of es)
-    with_removed [] sorted none = sym (before_zero k.0 x [] none)
-    with_removed (e ∷ es) sorted none = by (with_removed es (sorted_tail falling e.0 (keys_of es) sorted) none) (falling k e.0) refl where
-      by : terms_of (removed es) ≡ with_coefficient k.0 x (terms_of es) → (r : Ordering) → falling k e.0 ≡ r
-          → terms_of (cond (is_eq r) es (e ∷ removed es)) ≡ with_coefficient k.0 x (terms_of es ++ term_of e ∷ [])
-      by rest Less at =
-          let less = ranked e.0.0 k.0 Less (sym at) in
-          let others = before_more e.0.0 k.0 (terms_of es) less (others_before e es sorted) in
-          ap (λ (l : List Term). l ++ term_of e ∷ []) (rest ∙ with_none k.0 x (terms_of es) none others)
-          ∙ sym (with_none k.0 x (terms_of (e ∷ es)) none (all_before k.0 e es sorted less))
-      by rest Equal at =
-          let same = ranked e.0.0 k.0 Equal (sym at) in
-          sym (with_same k.0 x (terms_of es) (term_of e) (subst (λ (v : ℕ). AreBefore v (terms_of es)) same (others_before e es sorted)) same
-          ∙ ap (λ (l : List Term). terms_of es ++ l) (before_zero k.0 x [] none) ∙ append-nil (terms_of es))
-      by rest Greater at =
-          ap (λ (l : List Term). l ++ term_of e ∷ []) rest
-          ∙ sym (with_later k.0 x (terms_of es) (term_of e) (ranked e.0.0 k.0 Greater (sym at)))
+pub no_count : (coefs : List Fraction) → length (terms_of coefs) ≡ 0 → terms_of coefs ≡ []
+no_count coefs e = by (terms_of coefs) e where
+  by : (terms : List Term) → length terms ≡ 0 → terms ≡ []
+  by [] e = refl
+  by (t ∷ terms) e = absurd (omega arith)
 
-    length-inserted : (es : List (Reverse ℕ × Fraction)) → AreFalling es → length (inserted es) + one_if (found es) ≡ length es + 1
-    length-inserted [] sorted = refl
-    length-inserted (e ∷ es) sorted = by (length-inserted es (sorted_tail falling e.0 (keys_of es) sorted)) (falling k e.0) refl where
-      by : length (inserted es) + one_if (found es) ≡ length es + 1 → (r : Ordering) → falling k e.0 ≡ r
-          → length (match_ordering r ((k, x) ∷ e ∷ es) ((e.0, x) ∷ es) (e ∷ inserted es))
-          + one_if (cond (is_eq r) (Some e.1) (found es)) ≡ length (e ∷ es) + 1
-      by rest Less at =
-          let none = none_found e.0.0 es (ranked e.0.0 k.0 Less (sym at)) (sorted_head falling e.0 (keys_of es) sorted) in
-          let count : one_if (found es) ≡ 0 = ap one_if none in
-          omega (arith, count)
-      by rest Equal at = omega arith
-      by rest Greater at = omega (arith, rest)
+-- a table with longer coefficients
+pub table_longer : (coefs long : List Fraction) (named : List ℕ) (count : ℕ) → IsLonger coefs long → IsTable coefs named count → IsTable long named count
+table_longer coefs long named count longer table = record {
+  tidy = λ var e. longer.same var ∙ table.tidy var (ap (λ (x : Fraction). x.num) (sym (longer.same var)) ∙ e);
+  named_all = λ var missing. longer.same var ∙ table.named_all var missing;
+  below = λ k d within. let less = table.below k d within in let most = longer.longer in omega (arith, less, most);
+  counted = table.counted ∙ ap length (sym (longer.same_terms 0));
+}
 
-    length-removed : (es : List (Reverse ℕ × Fraction)) → length (removed es) + one_if (found es) ≡ length es
-    length-removed [] = refl
-    length-removed (e ∷ es) = by (length-removed es) (is_eq (falling k e.0)) where
-      by : length (removed es) + one_if (found es) ≡ length es → (b : Bool)
-          → length (cond b es (e ∷ removed es)) + one_if (cond b (Some e.1) (found es)) ≡ length (e ∷ es)
-      by rest true = omega arith
-      by rest false = omega (arith, rest)
+-- another coefficient of a variable
+module _ (coefs : List Fraction) (named : List ℕ) (count var : ℕ) (x : Fraction) (table : IsTable coefs named count) (below : var < length coefs) where
+  abbrev pub old : Fraction
+  old = get_or coefs var zero_value
 
-    -- how many terms there are with a coefficient that isn't 0, or is
-    pub count_inserted : (es : List (Reverse ℕ × Fraction)) → AreFalling es → (x.num ≡ pos 0 → ⊥)
-        → length (with_coefficient k.0 x (terms_of es)) + one_if (found es) ≡ length es + 1
-    count_inserted es sorted some =
-        let all = ap length (with_inserted es sorted some) in
-        omega (arith, all, length-terms_of (inserted es), length-inserted es sorted)
+  abbrev pub is_new : Bool
+  is_new = nat_lt (weight old) (weight x)
 
-    pub count_removed : (es : List (Reverse ℕ × Fraction)) → AreFalling es → x.num ≡ pos 0
-        → length (with_coefficient k.0 x (terms_of es)) + one_if (found es) ≡ length es
-    count_removed es sorted none =
-        let all = ap length (with_removed es sorted none) in
-        omega (arith, all, length-terms_of (removed es), length-removed es)
+  pub set_terms : terms_of (set coefs var (tidied x)) ≡ with_coefficient var x (terms_of coefs)
+  set_terms = with_set var (tidied x) coefs below ∙ with_tidied var x (terms_of coefs)
+
+  set_tidy : AreTidy (set coefs var (tidied x))
+  set_tidy = λ other e. both other e (other == var) refl where
+    both : (other : ℕ) → IsNone (get_or (set coefs var (tidied x)) other zero_value) → (b : Bool) → (other == var) ≡ b
+        → get_or (set coefs var (tidied x)) other zero_value ≡ zero_value
+    both other e true at =
+        let here : get_or (set coefs var (tidied x)) other zero_value ≡ tidied x =
+        ap (λ (v : ℕ). get_or (set coefs var (tidied x)) v zero_value) (eqb-true other var at) ∙ get_or-set_same coefs var (tidied x) zero_value below in
+        here ∙ tidied_tidy x (ap (λ (y : Fraction). y.num) (sym here) ∙ e)
+    both other e false at =
+        let same : get_or (set coefs var (tidied x)) other zero_value ≡ get_or coefs other zero_value =
+        get_or-set_other coefs var other (tidied x) zero_value (eqb-false other var at) in
+        same ∙ table.tidy other (ap (λ (y : Fraction). y.num) (sym same) ∙ e)
+
+  -- a variable that isn't among the old and the new names
+  not_old : (b : Bool) (other : ℕ) → (IsNamedFrom 0 (named_with b named var) other → ⊥) → IsNamedFrom 0 named other → ⊥
+  not_old true other missing at =
+      let more = length_push named var in
+      let less = at.2 in
+      missing (at.0, at.1, omega (arith, more, less), get_or-append named (var ∷ []) other at.0 less ∙ at.3)
+  not_old false other missing at = missing at
+
+  not_new : (b : Bool) → is_new ≡ b → (IsNamedFrom 0 (named_with b named var) var → ⊥) → tidied x ≡ zero_value
+  not_new true e missing =
+      let more = length_push named var in
+      absurd (missing (length named, omega arith, omega (arith, more), get_or_push named var var (length named) refl))
+  not_new false e missing =
+      let unnamed : old ≡ zero_value = table.named_all var missing in
+      let none : weight old ≡ 0 = ap weight unnamed in
+      let most = ltb-false (weight old) (weight x) e in
+      by_test (λ y. y ≡ zero_value) x (λ zero. refl) (λ some. let one = weight_some x some in absurd (omega (arith, none, most, one)))
+
+  set_named : (b : Bool) → is_new ≡ b → AreNamedFrom 0 (named_with b named var) (set coefs var (tidied x))
+  set_named b e = λ other missing. both other missing (other == var) refl where
+    both : (other : ℕ) → (IsNamedFrom 0 (named_with b named var) other → ⊥) → (c : Bool) → (other == var) ≡ c
+        → get_or (set coefs var (tidied x)) other zero_value ≡ zero_value
+    both other missing true at =
+        let same = eqb-true other var at in
+        ap (λ (v : ℕ). get_or (set coefs var (tidied x)) v zero_value) same ∙ get_or-set_same coefs var (tidied x) zero_value below
+        ∙ not_new b e (subst (λ (v : ℕ). IsNamedFrom 0 (named_with b named var) v → ⊥) same missing)
+    both other missing false at =
+        get_or-set_other coefs var other (tidied x) zero_value (eqb-false other var at) ∙ table.named_all other (not_old b other missing)
+
+  set_below : (b : Bool) → AreBelow (length (set coefs var (tidied x))) (named_with b named var)
+  set_below true =
+      let len = length-set coefs var (tidied x) in
+      All-push (λ (v : ℕ). v < length (set coefs var (tidied x))) named var
+      (subst (λ (n : ℕ). AreBelow n named) (sym len) table.below) (omega (arith, len, below))
+  set_below false = subst (λ (n : ℕ). AreBelow n named) (sym (length-set coefs var (tidied x))) table.below
+
+  pub set_count : length (terms_of (set coefs var (tidied x))) + weight old ≡ count + weight x
+  set_count =
+      let all = counted var x coefs in
+      let terms = ap length set_terms in
+      let so_far = table.counted in
+      omega (arith, all, terms, so_far)
+
+  pub set_table : (new_count : ℕ) → new_count + weight old ≡ count + weight x
+      → IsTable (set coefs var (tidied x)) (named_with is_new named var) new_count
+  set_table new_count counts =
+      let all = set_count in
+      record {
+        tidy = set_tidy;
+        named_all = set_named is_new refl;
+        below = set_below is_new;
+        counted = omega (arith, all, counts);
+      }
+
+-- the fields behind the step
+module _ {coefs long : List Fraction} {named : List ℕ} {count var so_far now : ℕ} (x : Fraction) (table : IsTable coefs named count)
+    (longer : IsLonger coefs long) (below : var < length long) (so_far_is : so_far ≡ weight (get_or long var zero_value)) (now_is : now ≡ weight x) where
+  long_table : IsTable long named count
+  long_table = table_longer coefs long named count longer table
+
+  pub so_far_within : so_far ≤ count + now
+  so_far_within = let all = set_count long named count var x long_table below in omega (arith, all, so_far_is, now_is)
+
+  pub table_behind : {names : List ℕ} {y : Fraction} → names ≡ named_with (nat_lt so_far now) named var → y ≡ tidied x
+      → IsTable (set long var y) names (count + now - so_far)
+  table_behind {names} {y} names_are y_is =
+      let all = set_count long named count var x long_table below in
+      let counts : (count + now - so_far) + weight (get_or long var zero_value) ≡ count + weight x = omega (arith, all, so_far_is, now_is) in
+      let told : named_with (nat_lt (weight (get_or long var zero_value)) (weight x)) named var ≡ names =
+      ap₂ (λ (a b : ℕ). named_with (nat_lt a b) named var) (sym so_far_is) (sym now_is) ∙ sym names_are in
+      subst (λ (z : Fraction). IsTable (set long var z) names (count + now - so_far)) (sym y_is)
+      (subst (λ (l : List ℕ). IsTable (set long var (tidied x)) l (count + now - so_far)) told
+      (set_table long named count var x long_table below (count + now - so_far) counts))
+
+  pub terms_behind : {y : Fraction} → y ≡ tidied x → terms_of (set long var y) ≡ with_coefficient var x (terms_of coefs)
+  terms_behind y_is =
+      ap (λ (z : Fraction). terms_of (set long var z)) y_is ∙ set_terms long named count var x long_table below
+      ∙ ap (with_coefficient var x) (longer.same_terms 0)

@@ -8,3 +8,4 @@ pub mod Outcomes
 pub mod Pairs
 pub mod ReadSoFar
 pub mod Tables
+pub mod Zero

@@ -134,7 +134,23 @@ impl Draft {
         ensures model { Meets result (λ _. self.new.model) (or_fault (spot_of spot) Size (defs.mention name.now self.old.model)) }
         ensures row { OnOk result (self.new.row ≡ self.old.row) }
     {
-        if self.var_names.place(name).is_some() {
+        let is_known = self.var_names.place(name).is_some();
+        self.mention_if_new(alloc, spot, name, is_known)
+    }
+
+    /// The same, where it is told whether the model has the variable.
+    fn mention_if_new(
+        &mut self,
+        alloc: Global,
+        spot: Spot,
+        name: &[u8],
+        is_known: bool,
+    ) -> Result<(), OrMemory<ModelFault>>
+        requires { is_known ≡ defs.knows_var name.now self.old.model }
+        ensures model { Meets result (λ _. self.new.model) (or_fault (spot_of spot) Size (defs.mention name.now self.old.model)) }
+        ensures row { OnOk result (self.new.row ≡ self.old.row) }
+    {
+        if is_known {
             return Ok(());
         }
         if self.vars.len() >= MAX_VARS {
@@ -237,7 +253,7 @@ impl Draft {
             return Err(spot.fault(FaultWord::Size));
         }
         self.title = title.to_vec(alloc)?;
-        self.terms = Terms::new(alloc);
+        self.terms.clear();
         Ok(())
     }
 
@@ -262,10 +278,10 @@ impl Draft {
     ) -> Result<(), OrMemory<ModelFault>>
         ensures { Meets result (λ _. self.new) (rows.add_to_row (summand_of term.now) self.old) }
     {
-        let var = self.var_place(term.name);
+        let (var, is_known) = self.find_var(term.name);
         let so_far = self.terms.coefficient(var);
         let sum = added(so_far, term.coefficient, term.number_spot)?;
-        self.mention(alloc, term.name_spot, term.name)?;
+        self.mention_if_new(alloc, term.name_spot, term.name, is_known)?;
         if !self.has_room_for_term(var, &sum) {
             return Err(term.name_spot.fault(FaultWord::Size));
         }
@@ -273,11 +289,13 @@ impl Draft {
         Ok(())
     }
 
-    /// The place of the variable, or that of the next new one.
-    fn var_place(&self, name: &[u8]) -> u32
-        ensures { result ≡ defs.var_place name.now self.now.model }
+    /// The place of the variable, or that of the next new one, and whether the model has it.
+    fn find_var(&self, name: &[u8]) -> (u32, bool)
+        ensures place { result.0 ≡ defs.var_place name.now self.now.model }
+        ensures known { result.1 ≡ defs.knows_var name.now self.now.model }
     {
-        self.var_names.place(name).unwrap_or(self.vars.len()) as u32
+        let place = self.var_names.place(name);
+        (place.unwrap_or(self.vars.len()) as u32, place.is_some())
     }
 
     /// Whether the terms are within their limit with this coefficient of the variable.
@@ -298,11 +316,10 @@ impl Draft {
     ) -> Result<(), NoMemory>
         ensures { OnOk result (self.new.model ≡ defs.close_row sense rhs self.old) }
     {
-        let terms = self.terms.to_vec(alloc)?;
+        let terms = self.terms.take(alloc)?;
         self.rows.reserve(1)?;
         self.row_names.add(alloc, self.title.as_slice())?;
         let title = std::mem::replace(&mut self.title, Vec::new(alloc));
-        self.terms = Terms::new(alloc);
         self.closed_terms += terms.len();
         self.rows.push_reserved(Row {
             name: Name::of(title),
@@ -346,6 +363,11 @@ fn set_bound(var: &mut Var, sense: Sense, limit: &Limit)
 fn added(so_far: Frac, number: Frac, spot: Spot) -> Result<Frac, OrMemory<ModelFault>>
     ensures { Meets result (λ x. x) (or_fault (spot_of spot) bad_number (added so_far number)) }
 {
+    if so_far == Frac::zero() {
+        // As a row's first term of a variable is.
+        number.kept();
+        return Ok(number);
+    }
     match so_far.add(&number) {
         Some(sum) => Ok(sum),
         None => Err(spot.fault(FaultWord::Number)),

@@ -3,8 +3,8 @@
 //! [`parse`] reads a text in one pass, token by token with one in view, and gives the model or the fault that the reading
 //! of `lp_defs` gives. Its [`Stage`](stage::Stage) and its [`Draft`](draft::Draft) together stand for a stage of that
 //! reading (`specs/Meaning.antt`). What holds of the draft's tables and counts stands in `specs/Draft.antt`. A name is
-//! found by a table and a term of the open row by a tree, so no token takes time in the number of variables or rows; the end
-//! of a row takes time in the number of its terms.
+//! found by a table, once for a term, and the coefficients of the open row stand by variable (`specs/Terms.antt`), so no
+//! token takes time in the number of variables or rows; the end of a row takes time in the number of its terms.
 #![tactic(auto)]
 
 mod draft;
@@ -18,8 +18,6 @@ mod stage;
 mod symbol;
 mod terms;
 
+pub use base_names::FaultWord;
 pub use lp_defs::ModelFault;
 pub use parser::parse;
-
-#[cfg(test)]
-mod tests;

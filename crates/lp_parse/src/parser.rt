@@ -4,7 +4,8 @@ ghost use Rattle.base_names.specs.declared.memory.OrMemory.TheVariants.{Fault};
 ghost use Rattle.lp_defs.specs.declared.fault.ModelFault.{ModelFault};
 ghost use Rattle.lp_defs.specs.Reading as defs;
 ghost use Rattle.lp_defs.specs.Symbols as seen;
-ghost use Rattle.lp_defs.specs.Text.{reading};
+ghost use Rattle.lp_defs.specs.Text.{Spells, Stops};
+ghost use Rattle.model_data.specs.Lawful.{IsLawful};
 ghost use Rattle.lp_parse.specs.Meaning.{spot_of, stage_of, symbol_of};
 ghost use Rattle.lp_parse.specs.Outcome.{Meets};
 
@@ -35,8 +36,9 @@ use std::alloc::Global;
 /// The text has fewer than 2^32 - 1 bytes.
 pub fn parse(alloc: Global, text: &[u8]) -> Result<Model, OrMemory<ModelFault>>
     requires { length text.now < 2 ^ 32 - 1 }
-    ensures ok { IfOk result (λ m. reading text.now ≡ Ok m) }
-    ensures fault { (fault : ModelFault) → result ≡ Err (Fault fault) → reading text.now ≡ Err fault }
+    ensures ok { IfOk result (λ m. Spells text.now m) }
+    ensures lawful { IfOk result IsLawful }
+    ensures fault { (fault : ModelFault) → result ≡ Err (Fault fault) → Stops text.now fault }
 {
     let mut lexer = Lexer::new(text);
     let mut draft = Draft::blank(alloc, Direction::Minimize);

@@ -1,8 +1,11 @@
-use Rattle.std.proofs.Common.{◌≡◌, sym, ◌∙◌, ap, ℕ, List, slice_range, Err}
+use Rattle.std.proofs.Common.{◌≡◌, sym, ◌∙◌, ap, ℕ, List, slice_range, Ok, Err}
+use Rattle.std.specs.Prelude.{IfOk}
+use Rattle.std.proofs.lemmas.Result.{IfOk-weaker}
 use Rattle.base_names.specs.declared.memory.OrMemory.TheVariants.{Fault}
 use Rattle.lp_defs.specs.Reading.{after, at_the_end, stopped}
 use Rattle.lp_defs.specs.Symbols as seen
 use Rattle.lp_defs.specs.Text.{reading}
+use Rattle.lp_defs.proofs.Laws.{read_lawful, read_spells}
 use Rattle.lp_parse.specs.Meaning.{spot_of, stage_of}
 use Rattle.lp_parse.proofs.Outcomes.{fault_met, value_met}
 use Rattle.lp_parse.proofs.ReadSoFar.{IsTold, read_end, read_more, read_no_token, read_stop, spot_of_token}
@@ -48,8 +51,14 @@ ends c =
     read_end c.loop-token.invariant (cc)
     ∙ ap (at_the_end stage) (sym (c.of_place.ensures ∙ ap seen.spot_of (c.end.ensures ∙ c.next_token.ensures.same_end)))
 
+is_read : (c : After-at_the_end) → IfOk c.at_the_end.result (λ m. reading c.args.text.now ≡ Ok m)
+is_read c = value_met c.at_the_end.result _ _ (ends c) c.at_the_end.ensures
+
 pub returns-in-Ok-None-clause-ok : goal.returns-in-Ok-None-clause-ok
-returns-in-Ok-None-clause-ok c = value_met c.at_the_end.result _ _ (ends c) c.at_the_end.ensures
+returns-in-Ok-None-clause-ok c = IfOk-weaker c.at_the_end.result _ _ (read_spells c.args.text.now) (is_read c)
+
+pub returns-in-Ok-None-clause-lawful : goal.returns-in-Ok-None-clause-lawful
+returns-in-Ok-None-clause-lawful c = IfOk-weaker c.at_the_end.result _ _ (read_lawful c.args.text.now) (is_read c)
 
 pub returns-in-Ok-None-clause-fault : goal.returns-in-Ok-None-clause-fault
 returns-in-Ok-None-clause-fault c fault is =

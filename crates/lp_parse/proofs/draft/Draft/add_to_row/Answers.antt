@@ -12,11 +12,11 @@ returns-then-not-has_room_for_term c =
     let u = c.args.self.now in
     let read =
     c.coefficient-so_far.ensures
-    ∙ ap (coefficient_in c.var_place-var.result) (ap (λ (u : Unfinished). u.row.terms) c.self.view_is) in
-    let row : OpenRow = record { title = u.row.title; terms = with_coefficient c.var_place-var.result c.in_ok-sum.sum c.mention.new.self.row.terms } in
-    let terms = ap (λ (row : OpenRow). with_coefficient c.var_place-var.result c.in_ok-sum.sum row.terms) c.in_ok-mention.ensures.row in
+    ∙ ap (coefficient_in c.find_var-var.result.0) (ap (λ (u : Unfinished). u.row.terms) c.self.view_is) in
+    let row : OpenRow = record { title = u.row.title; terms = with_coefficient c.find_var-var.result.0 c.in_ok-sum.sum c.mention_if_new.new.self.row.terms } in
+    let terms = ap (λ (row : OpenRow). with_coefficient c.find_var-var.result.0 c.in_ok-sum.sum row.terms) c.in_ok-mention_if_new.ensures.row in
     rw c.fault.ensures (
-    term_refused (summand_of c.args.term.now) u {row = row} c.var_place-var.ensures read c.in_ok-sum.ensures c.in_ok-mention.ensures.model refl terms
+    term_refused (summand_of c.args.term.now) u {row = row} c.find_var-var.ensures.place read c.in_ok-sum.ensures c.in_ok-mention_if_new.ensures.model refl terms
     (sym c.has_room_for_term.ensures ∙ c.if-not-has_room_for_term.true))
 
 pub returns : goal.returns
@@ -24,13 +24,13 @@ returns c =
     let u = c.args.self.now in
     let read =
     c.coefficient-so_far.ensures
-    ∙ ap (coefficient_in c.var_place-var.result) (ap (λ (u : Unfinished). u.row.terms) c.self.view_is) in
+    ∙ ap (coefficient_in c.find_var-var.result.0) (ap (λ (u : Unfinished). u.row.terms) c.self.view_is) in
     let shown = c.self-2.view_is in
     let row : OpenRow = record { title = c.self-2.inside.title.items; terms = c.set_coefficient.new.self } in
-    let title = ap (λ (u : Unfinished). u.row.title) shown ∙ ap (λ (row : OpenRow). row.title) c.in_ok-mention.ensures.row in
-    let set = c.in_ok-set_coefficient.ensures.ok ∙ ap (λ (u : Unfinished). with_coefficient c.var_place-var.result c.in_ok-sum.sum u.row.terms) shown in
-    let terms = set ∙ ap (λ (row : OpenRow). with_coefficient c.var_place-var.result c.in_ok-sum.sum row.terms) c.in_ok-mention.ensures.row in
-    let room = ap (λ (l : List Term). nat_le (term_count c.mention.new.self.model + length l) MAX_TERMS) set
+    let title = ap (λ (u : Unfinished). u.row.title) shown ∙ ap (λ (row : OpenRow). row.title) c.in_ok-mention_if_new.ensures.row in
+    let set = c.in_ok-set_coefficient.ensures.ok ∙ ap (λ (u : Unfinished). with_coefficient c.find_var-var.result.0 c.in_ok-sum.sum u.row.terms) shown in
+    let terms = set ∙ ap (λ (row : OpenRow). with_coefficient c.find_var-var.result.0 c.in_ok-sum.sum row.terms) c.in_ok-mention_if_new.ensures.row in
+    let room = ap (λ (l : List Term). nat_le (term_count c.mention_if_new.new.self.model + length l) MAX_TERMS) set
     ∙ sym c.has_room_for_term.ensures ∙ c.if-not-has_room_for_term.false in
-    term_told (summand_of c.args.term.now) u {row = row} c.var_place-var.ensures read c.in_ok-sum.ensures c.in_ok-mention.ensures.model title terms room
+    term_told (summand_of c.args.term.now) u {row = row} c.find_var-var.ensures.place read c.in_ok-sum.ensures c.in_ok-mention_if_new.ensures.model title terms room
     ∙ ap (λ (u : Unfinished). Ok (record { model = u.model; row = row })) (sym shown)

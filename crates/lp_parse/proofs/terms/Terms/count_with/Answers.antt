@@ -1,79 +1,45 @@
-use Rattle.std.proofs.Common.{◌≡◌, refl, sym, ◌∙◌, ap, arith, ℕ, ◌+◌, Bool, pos, List, length, is_some, if◌then◌else◌}
-use Rattle.std.specs.BTreeMap.{is_at}
-use Rattle.std.specs.Map.{lookup}
-use Rattle.std.specs.declared.cmp.Reverse.{Reverse}
-use Rattle.std.proofs.lemmas.Bool.{false≢true}
-use Rattle.frac128.specs.Fraction.{Fraction}
+use Rattle.std.proofs.Common.{◌≡◌, ◌+◌, ◌∙◌, ap, arith, length, get_or, List}
+use Rattle.frac128.specs.Fraction.{Fraction, zero_value}
 use Rattle.model_data.specs.declared.model.Term.{Term}
 use Rattle.lp_defs.specs.Draft.{with_coefficient}
-use Rattle.lp_parse.specs.Terms.{terms_of}
-use Rattle.lp_parse.proofs.Coefficients.{AreFalling, count_inserted, count_removed, falling, length-terms_of}
+use Rattle.lp_parse.specs.Terms.{weight, terms_of}
+use Rattle.lp_parse.proofs.Coefficients.{counted, length_terms}
 use Rattle.lp_parse.proofs.terms.Terms.count_with.Goals as goal
+use Rattle.lp_parse.proofs.terms.Terms.count_with.Goals.{After-weight-2}
 
-same_length : (entries : List (Reverse ℕ × Fraction)) {terms : List Term} → terms_of entries ≡ terms → length terms ≡ length entries
-same_length entries shows = ap length (sym shows) ∙ length-terms_of entries
+counts : (c : After-weight-2) → length (with_coefficient c.args.var c.args.coef.now c.args.self.now) + c.weight-2.result ≡ c.self.inside.count + c.weight.result
+counts c =
+    let coefs = c.self.inside.coefs.items in
+    let so_far : c.coefficient_at-so_far.result ≡ get_or coefs c.args.var zero_value =
+    c.coefficient_at-so_far.ensures ∙ ap (λ (l : List Fraction). get_or l c.args.var zero_value) c.deref.ensures.value in
+    let old : c.weight-2.result ≡ weight (get_or coefs c.args.var zero_value) = c.weight-2.ensures.value ∙ ap weight so_far in
+    let shown : length (with_coefficient c.args.var c.args.coef.now (terms_of coefs)) ≡ length (with_coefficient c.args.var c.args.coef.now c.args.self.now) =
+    ap (λ (l : List Term). length (with_coefficient c.args.var c.args.coef.now l)) c.self.view_is in
+    let all = counted c.args.var c.args.coef.now coefs in
+    let new = c.weight.ensures.value in
+    let count = c.self.invariant.counted in
+    omega (arith, old, shown, all, new, count)
 
-module _ (var : ℕ) (x : Fraction) (entries : List (Reverse ℕ × Fraction)) {terms : List Term} (sorted : AreFalling entries)
-    (shows : terms_of entries ≡ terms) {known : Bool} (found : known ≡ is_some (lookup (is_at (falling (record { 0 = var }))) entries)) where
-  counted : (n : ℕ) → length (with_coefficient var x (terms_of entries))
-      + (if is_some (lookup (is_at (falling (record { 0 = var }))) entries) then 1 else 0) ≡ n
-      → length (with_coefficient var x terms) + (if known then 1 else 0) ≡ n
-  counted n all =
-      ap (λ (l : List Term). length (with_coefficient var x l) + (if known then 1 else 0)) (sym shows)
-      ∙ ap (λ (b : Bool). length (with_coefficient var x (terms_of entries)) + (if b then 1 else 0)) found
-      ∙ all
+pub overflow_add-result : goal.overflow_add-result
+overflow_add-result c =
+    let coefs = c.self.inside.coefs in
+    let terms = length_terms coefs.items in
+    let len = coefs.ok.0 in
+    let within = coefs.ok.1 in
+    let small = coefs.small in
+    let count = c.self.invariant.counted in
+    let one = c.weight.ensures.small in
+    omega (arith, terms, len, within, small, count, one)
 
-  some_counted : (x.num ≡ pos 0 → ⊥) → length (with_coefficient var x terms) + (if known then 1 else 0) ≡ length entries + 1
-  some_counted some = counted (length entries + 1) (count_inserted (record { 0 = var }) x entries sorted some)
+pub overflow_sub-result : goal.overflow_sub-result
+overflow_sub-result c = let all = counts c in omega (arith, all)
 
-  none_counted : x.num ≡ pos 0 → length (with_coefficient var x terms) + (if known then 1 else 0) ≡ length entries
-  none_counted none = counted (length entries) (count_removed (record { 0 = var }) x entries sorted none)
+pub returns-clause-count : goal.returns-clause-count
+returns-clause-count c = let all = counts c in omega (arith, all)
 
-pub returns-in-true-true-clause-count : goal.returns-in-true-true-clause-count
-returns-in-true-true-clause-count c =
-    let count =
-    none_counted c.args.var c.args.coef.now c.self.inside.coefficients.entries c.self.invariant c.self.view_is c.in-true-true.ensures
-    (c.in-true-true.ensures'.0 refl) in
-    omega (arith, count, c.len-count.ensures.len)
-
-pub returns-in-true-true-clause-within : goal.returns-in-true-true-clause-within
-returns-in-true-true-clause-within c =
-    let same = same_length c.self.inside.coefficients.entries c.self.view_is in
-    omega (arith, same, c.len-count.ensures.len)
-
-pub returns-in-false-false-clause-count : goal.returns-in-false-false-clause-count
-returns-in-false-false-clause-count c =
-    let count =
-    some_counted c.args.var c.args.coef.now c.self.inside.coefficients.entries c.self.invariant c.self.view_is c.in-false-false.ensures
-    (λ e. false≢true (c.in-false-false.ensures'.1 e)) in
-    omega (arith, count, c.len-count.ensures.len)
-
-pub returns-in-false-false-clause-within : goal.returns-in-false-false-clause-within
-returns-in-false-false-clause-within c =
-    let same = same_length c.self.inside.coefficients.entries c.self.view_is in
-    omega (arith, same, c.len-count.ensures.len)
-
-pub returns-in-true-false-clause-count : goal.returns-in-true-false-clause-count
-returns-in-true-false-clause-count c =
-    let count =
-    some_counted c.args.var c.args.coef.now c.self.inside.coefficients.entries c.self.invariant c.self.view_is c.in-true-false.ensures
-    (λ e. false≢true (c.in-true-false.ensures'.1 e)) in
-    omega (arith, count, c.len-count.ensures.len)
-
-pub returns-in-true-false-clause-within : goal.returns-in-true-false-clause-within
-returns-in-true-false-clause-within c =
-    let same = same_length c.self.inside.coefficients.entries c.self.view_is in
-    omega (arith, same, c.len-count.ensures.len)
-
--- a new variable, and a coefficient of 0
-pub returns-in-true-false-2-clause-count : goal.returns-in-true-false-2-clause-count
-returns-in-true-false-2-clause-count c =
-    let count =
-    none_counted c.args.var c.args.coef.now c.self.inside.coefficients.entries c.self.invariant c.self.view_is c.in-true-false.ensures
-    (c.in-true-false.ensures'.0 refl) in
-    omega (arith, count, c.len-count.ensures.len)
-
-pub returns-in-true-false-2-clause-within : goal.returns-in-true-false-2-clause-within
-returns-in-true-false-2-clause-within c =
-    let same = same_length c.self.inside.coefficients.entries c.self.view_is in
-    omega (arith, same, c.len-count.ensures.len)
+pub returns-clause-within : goal.returns-clause-within
+returns-clause-within c =
+    let count = c.self.invariant.counted in
+    let shown = ap length c.self.view_is in
+    let one = c.weight.ensures.small in
+    omega (arith, count, shown, one)
