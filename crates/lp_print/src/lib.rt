@@ -12,6 +12,3 @@ mod rows;
 mod words;
 
 pub use printing::print;
-
-#[cfg(test)]
-mod tests;
