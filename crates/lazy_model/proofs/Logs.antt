@@ -7,7 +7,9 @@ use Rattle.model_data.specs.declared.model.Model.{Model}
 use Rattle.model_core.specs.Asked.{IsLawfulChange}
 use Rattle.model_core.specs.One.{after, fold, one}
 use Rattle.model_core.specs.declared.change.Change.{Change}
-use Rattle.lazy_model.specs.Log.{AreAccepted, IsLog}
+use Rattle.lazy_model.specs.Log.{AreAccepted, IsBeside, IsLog, queued_of}
+use Rattle.lazy_model.specs.declared.replay.Side.{Side}
+use Rattle.lazy_model.specs.declared.replay.Side.TheVariants.{Ahead, Behind}
 
 pub fold-push : (m : Model) (changes : List Change) (c : Change) → fold m (changes ++ c ∷ []) ≡ after (fold m changes) c
 fold-push m [] c = refl
@@ -88,3 +90,30 @@ take-all (d ∷ changes) = ap (λ (l : List Change). d ∷ l) (take-all changes)
 pub drop-all : (changes : List Change) → drop (length changes) changes ≡ []
 drop-all [] = refl
 drop-all (d ∷ changes) = drop-all changes
+
+-- what the two sides mean
+module _ (side : Side) (log : List Change) (applied other : Model) where
+  pub beside_ahead : side ≡ Ahead → IsBeside side log applied other → IsLog log applied other
+  beside_ahead e h = subst (λ (s : Side). IsBeside s log applied other) e h
+
+  pub beside_behind : side ≡ Behind → IsBeside side log applied other → IsLog log other applied
+  beside_behind e h = subst (λ (s : Side). IsBeside s log applied other) e h
+
+  pub behind_beside : side ≡ Behind → IsLog log other applied → IsBeside side log applied other
+  behind_beside e h = subst (λ (s : Side). IsBeside s log applied other) (sym e) h
+
+pub queued_ahead : (side : Side) (log : List Change) → side ≡ Ahead → queued_of side log ≡ log
+queued_ahead side log e = ap (λ (s : Side). queued_of s log) e
+
+pub queued_behind : (side : Side) (log : List Change) → side ≡ Behind → queued_of side log ≡ []
+queued_behind side log e = ap (λ (s : Side). queued_of s log) e
+
+-- without a change both models are one
+pub turned : (log : List Change) (from to : Model) → log ≡ [] → IsLog log from to → IsLog log to from
+turned log from to e h =
+    let same : from ≡ to = ap (λ (l : List Change). fold from l) (sym e) ∙ h.leads in
+    subst (λ (l : List Change). IsLog l to from) (sym e) (record { accepted = tt; lawful = tt; leads = sym same })
+
+pub one_shorter : {X : Type 0} (xs : List X) → 0 < length xs → length (drop 1 xs) + 1 ≡ length xs
+one_shorter [] some = absurd (omega (arith, some))
+one_shorter (x ∷ xs) some = omega arith

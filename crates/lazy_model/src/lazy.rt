@@ -90,8 +90,9 @@ impl LazyModel {
             &self.applied,
             &mut self.other,
             &mut self.log,
-            &mut self.side,
+            self.side,
         )?;
+        self.side = Side::Ahead;
         accept(
             alloc,
             &self.applied,

@@ -4,7 +4,6 @@ ghost use Rattle.base_names.specs.declared.refusal.Refusal.TheVariants.{MEMORY};
 ghost use Rattle.model_core.specs.Asked.{IsLawfulChange};
 ghost use Rattle.model_core.specs.One.{fold, one};
 ghost use Rattle.lazy_model.specs.Log.{IsBeside, IsLog, queued_of};
-ghost use Rattle.lazy_model.specs.declared.replay.Side.TheVariants.{Ahead};
 
 use base_names::Refusal;
 use model_core::{Change, IndexedModel};
@@ -21,26 +20,34 @@ pub(crate) enum Side {
 }
 
 /// Brings the other model ahead of the applied one, where it isn't. Want of memory leaves it behind, by fewer changes.
+#[tactic(
+    auto,
+    using(
+        crate::proofs::Logs::beside_ahead,
+        crate::proofs::Logs::beside_behind,
+        crate::proofs::Logs::behind_beside,
+        crate::proofs::Logs::queued_ahead,
+        crate::proofs::Logs::queued_behind,
+        crate::proofs::Logs::turned
+    )
+)]
 pub(crate) fn bring_ahead(
     alloc: Global,
     applied: &IndexedModel,
     other: &mut IndexedModel,
     log: &mut VecDeque<Change>,
-    side: &mut Side,
+    side: Side,
 ) -> Result<(), Refusal>
-    requires { IsBeside side.old log.old.items applied.now other.old }
-    ensures beside { IsBeside side.new log.new.items applied.now other.new }
-    ensures queued { queued_of side.new log.new.items ≡ queued_of side.old log.old.items }
-    ensures ahead { OnOk result (side.new ≡ Ahead) }
+    requires { IsBeside side log.old.items applied.now other.old }
+    ensures ahead { OnOk result (IsLog log.new.items applied.now other.new) }
+    ensures queued { OnOk result (log.new.items ≡ queued_of side log.old.items) }
+    ensures behind { OnErr result (IsBeside side log.new.items applied.now other.new) }
+    ensures unchanged { OnErr result (queued_of side log.new.items ≡ queued_of side log.old.items) }
     ensures memory { IfErr result (λ r. r ≡ MEMORY) }
 {
-    match *side {
+    match side {
         Side::Ahead => Ok(()),
-        Side::Behind => {
-            replay(alloc, applied, other, log)?;
-            *side = Side::Ahead;
-            Ok(())
-        }
+        Side::Behind => replay(alloc, applied, other, log),
     }
 }
 

@@ -5,5 +5,5 @@ use Rattle.lazy_model.proofs.replay.replay.Given as goal
 abbrev pub invariant-loop-turn : goal.invariant-loop-turn
 invariant-loop-turn l = record {
   log : IsLog l.log.items l.behind l.ahead;
-  left : length l.log.items + l.turn ≡ l.turn-end;
+  left : length l.log.items + l._turn ≡ l._turn-end;
 }
