@@ -1,7 +1,7 @@
 -- Which commands have a block behind their line: `READ` alone.
 use Rattle.std.proofs.Common.{◌≡◌, ℕ, Bool, true, false, List, [], ◌∷◌, Option, None, Result, Ok, Err, refl}
 use Rattle.std.specs.Prelude.{if◌then◌else◌}
-use Rattle.base_names.specs.Results.{◌>>=◌}
+use Rattle.frac128.specs.Checked.{◌>>=◌}
 use Rattle.base_names.specs.declared.refusal.Refusal.{Refusal}
 use Rattle.base_names.specs.declared.refusal.Refusal.TheVariants.{LINE}
 use Rattle.model_core.specs.declared.change.NamedTerm.{NamedTerm}

@@ -3,7 +3,7 @@ use Rattle.std.proofs.Common.{◌≡◌, ℕ, Bool, true, false, List, [], ◌�
 use Rattle.std.specs.Prelude.{◌&&◌, if◌then◌else◌}
 use Rattle.std.proofs.Math.Bool.{true-and}
 use Rattle.std.proofs.lemmas.List.{append-nil}
-use Rattle.base_names.specs.Results.{◌>>=◌}
+use Rattle.frac128.specs.Checked.{◌>>=◌}
 use Rattle.base_names.specs.declared.refusal.Refusal.{Refusal}
 use Rattle.base_names.specs.declared.refusal.Refusal.TheVariants.{LINE}
 use Rattle.frac128.specs.Fraction.{Fraction}

@@ -1,6 +1,6 @@
 -- What the readers of single words answer.
 use Rattle.std.specs.Prelude.{◌≡◌, Bool, false, Result, Ok, Err}
-use Rattle.base_names.specs.Results.{◌>>=◌}
+use Rattle.frac128.specs.Checked.{◌>>=◌}
 use Rattle.base_names.specs.declared.refusal.Refusal.{Refusal}
 use Rattle.base_names.specs.declared.refusal.Refusal.TheVariants.{LINE}
 use Rattle.wire_text.specs.Commands.{is_line}

@@ -1,0 +1,5 @@
+mod Answered
+mod Blocks
+mod LineCuts
+mod Pairs
+mod Verbs
