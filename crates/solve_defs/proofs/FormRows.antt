@@ -1,5 +1,5 @@
 -- A row of the model holds just where its rows in standard form do.
-use Rattle.std.proofs.Common.{◌≡◌, refl, sym, ◌∙◌, ap, subst, subst₂, ℕ, zero, suc, ◌+◌, ◌<◌, List, [], ◌∷◌, length, map, slice_index_or, Option, Some, None, Ok}
+use Rattle.std.proofs.Common.{◌≡◌, refl, sym, ◌∙◌, ap, subst, subst₂, ℕ, suc, ◌+◌, ◌<◌, List, [], ◌∷◌, length, map, slice_index_or, Option, Some, None, Ok}
 use Rattle.std.specs.Prelude.{AllPairs, flat_map, unwrap_or}
 use Rattle.std.proofs.lemmas.List.{length-map}
 use Rattle.frac128.specs.Fraction.{Fraction, negation, zero_value}
