@@ -27,11 +27,26 @@ fn refusals(rt: HostRuntime) -> Result<(), Fail> {
         (add_row(alloc, "end", &[])?, Refusal::NAME),
         (add_row(alloc, "c", &[("w", 0)])?, Refusal::NAME),
         (add_row(alloc, "c", &[])?, Refusal::DUPLICATE),
-        (add_row(alloc, "e", &[("x", 1), ("y", 0), ("x", 0)])?, Refusal::DUPLICATE),
-        (Change::ChgCoeff(name(alloc, "e")?, x.copy(alloc)?, whole(1)), Refusal::NAME),
-        (Change::ChgCoeff(name(alloc, "c")?, name(alloc, "w")?, whole(1)), Refusal::NAME),
-        (Change::SetTag(x.copy(alloc)?, tag(alloc, "t")?), Refusal::DUPLICATE),
-        (Change::SetTag(name(alloc, "w")?, tag(alloc, "t")?), Refusal::NAME),
+        (
+            add_row(alloc, "e", &[("x", 1), ("y", 0), ("x", 0)])?,
+            Refusal::DUPLICATE,
+        ),
+        (
+            Change::ChgCoeff(name(alloc, "e")?, x.copy(alloc)?, whole(1)),
+            Refusal::NAME,
+        ),
+        (
+            Change::ChgCoeff(name(alloc, "c")?, name(alloc, "w")?, whole(1)),
+            Refusal::NAME,
+        ),
+        (
+            Change::SetTag(x.copy(alloc)?, tag(alloc, "t")?),
+            Refusal::DUPLICATE,
+        ),
+        (
+            Change::SetTag(name(alloc, "w")?, tag(alloc, "t")?),
+            Refusal::NAME,
+        ),
         (Change::SetRhs(x.copy(alloc)?, whole(1)), Refusal::NAME),
         (Change::DelVar(name(alloc, "c")?), Refusal::NAME),
         (Change::DelConstr(x), Refusal::NAME),
@@ -84,7 +99,11 @@ fn fields(rt: HostRuntime) -> Result<(), Fail> {
 fn rows_and_terms(rt: HostRuntime) -> Result<(), Fail> {
     let alloc = rt.alloc();
     // Terms go by variable, and those of 0 are left out.
-    let added = after(alloc, add_row(alloc, "e", &[("z", 5), ("y", 0), ("x", -6)])?)?.ok_or("e")?;
+    let added = after(
+        alloc,
+        add_row(alloc, "e", &[("z", 5), ("y", 0), ("x", -6)])?,
+    )?
+    .ok_or("e")?;
     assert!(rt; added.rows.as_slice()[2] == row(alloc, "e", &[(0, -6), (2, 5)])?);
     let table = [
         ("c", "y", 0, [(0, 1), (2, 3)].as_slice()),
@@ -95,7 +114,7 @@ fn rows_and_terms(rt: HostRuntime) -> Result<(), Fail> {
     ];
     for (text, variable, coef, terms) in table {
         let change = Change::ChgCoeff(name(alloc, text)?, name(alloc, variable)?, whole(coef));
-        let changed = after(alloc, change)?.ok_or("a coefficient")?;
+        let changed = after(alloc, change)?.ok().ok_or("a coefficient")?;
         let place = if text == "c" { 0 } else { 1 };
         assert!(rt; changed.rows.as_slice()[place] == row(alloc, text, terms)?);
     }
@@ -105,12 +124,12 @@ fn rows_and_terms(rt: HostRuntime) -> Result<(), Fail> {
 #[test]
 fn deletions(rt: HostRuntime) -> Result<(), Fail> {
     let alloc = rt.alloc();
-    let without = after(alloc, Change::DelVar(name(alloc, "y")?))?.ok_or("y")?;
+    let without = after(alloc, Change::DelVar(name(alloc, "y")?))?.ok().ok_or("y")?;
     assert_eq!(rt; without.vars.len(), 2);
     assert!(rt; without.vars.as_slice()[1] == var(alloc, "z")?);
     assert!(rt; without.rows.as_slice()[0] == row(alloc, "c", &[(0, 1), (1, 3)])?);
     assert!(rt; without.rows.as_slice()[1] == row(alloc, "d", &[])?);
-    let without = after(alloc, Change::DelConstr(name(alloc, "c")?))?.ok_or("c")?;
+    let without = after(alloc, Change::DelConstr(name(alloc, "c")?))?.ok().ok_or("c")?;
     assert_eq!(rt; without.rows.len(), 1);
     assert!(rt; without.rows.as_slice()[0] == row(alloc, "d", &[(1, 4)])?);
     Ok(())

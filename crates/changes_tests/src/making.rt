@@ -63,12 +63,7 @@ pub(crate) fn add_row(
             coef: whole(*coef),
         })?;
     }
-    Ok(Change::AddConstr(
-        name(alloc, text)?,
-        Sense::Less,
-        whole(10),
-        Seq::of(list),
-    ))
+    Ok(Change::AddConstr(name(alloc, text)?, Sense::Less, whole(10), Seq::of(list)))
 }
 
 /// Variables x, y and z, of which y has the tag t, and rows c: x + 2 y + 3 z and d: 4 y.

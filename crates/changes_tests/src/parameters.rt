@@ -16,8 +16,16 @@ fn parameters(rt: HostRuntime) {
     for (name, usual, least, greatest) in table {
         let text = name.as_bytes();
         assert_eq!(rt; get(&params, text), Ok(usual), "{name}");
-        assert_eq!(rt; set(&mut params, text, least - 1), Err(Refusal::RANGE), "{name}");
-        assert_eq!(rt; set(&mut params, text, greatest + 1), Err(Refusal::RANGE), "{name}");
+        assert_eq!(rt;
+            set(&mut params, text, least - 1),
+            Err(Refusal::RANGE),
+            "{name}"
+        );
+        assert_eq!(rt;
+            set(&mut params, text, greatest + 1),
+            Err(Refusal::RANGE),
+            "{name}"
+        );
         assert_eq!(rt; get(&params, text), Ok(usual), "{name}");
         assert_eq!(rt; set(&mut params, text, least), Ok(()), "{name}");
         assert_eq!(rt; get(&params, text), Ok(least), "{name}");

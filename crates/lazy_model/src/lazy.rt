@@ -58,11 +58,7 @@ impl LazyModel {
     }
 
     /// Takes another model, and drops what is queued. It takes time in the size of the model.
-    pub fn load(
-        &mut self,
-        alloc: Global,
-        model: model_data::Model,
-    ) -> Result<LoadDone, NoMemory>
+    pub fn load(&mut self, alloc: Global, model: model_data::Model) -> Result<LoadDone, NoMemory>
         requires { IsLawful model }
         ensures ok { OnOk result (self.new ≡ record { applied = model; queued = [] }) }
         ensures unchanged { OnErr result (self.new ≡ self.old) }
@@ -93,13 +89,7 @@ impl LazyModel {
             self.side,
         )?;
         self.side = Side::Ahead;
-        accept(
-            alloc,
-            &self.applied,
-            &mut self.other,
-            &mut self.log,
-            change,
-        )
+        accept(alloc, &self.applied, &mut self.other, &mut self.log, change)
     }
 
     /// Applies all queued changes, and says how many. It takes no memory, and constant time.

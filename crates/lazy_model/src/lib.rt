@@ -10,8 +10,8 @@
 //! changes takes time in its length.
 #![tactic(auto)]
 
-mod lazy;
 mod laws;
+mod lazy;
 mod replay;
 
 pub use laws::an_update_moves_the_mark;

@@ -20,17 +20,7 @@ pub(crate) enum Side {
 }
 
 /// Brings the other model ahead of the applied one, where it isn't. Want of memory leaves it behind, by fewer changes.
-#[tactic(
-    auto,
-    using(
-        crate::proofs::Logs::beside_ahead,
-        crate::proofs::Logs::beside_behind,
-        crate::proofs::Logs::behind_beside,
-        crate::proofs::Logs::queued_ahead,
-        crate::proofs::Logs::queued_behind,
-        crate::proofs::Logs::turned
-    )
-)]
+#[tactic(auto, using(crate::proofs::Logs::beside_ahead, crate::proofs::Logs::beside_behind, crate::proofs::Logs::behind_beside, crate::proofs::Logs::queued_ahead, crate::proofs::Logs::queued_behind, crate::proofs::Logs::turned))]
 pub(crate) fn bring_ahead(
     alloc: Global,
     applied: &IndexedModel,

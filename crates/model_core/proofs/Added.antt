@@ -1,16 +1,16 @@
 -- A model with one more variable, and its tables.
-use Rattle.std.proofs.Common.{◌≡◌, refl, sym, ◌∙◌, ap, ap₂, arith, ℕ, ◌+◌, ◌<◌, ◌≤◌, nat_lt, Bool, true, false, ◌||◌, List, [], ◌∷◌, ◌++◌, length, map, bytes_eq, Option, Some, None}
+use Rattle.std.proofs.Common.{◌≡◌, refl, sym, ◌∙◌, ap, ap₂, arith, ℕ, ◌<◌, ◌≤◌, nat_lt, Bool, true, false, ◌||◌, List, [], ◌∷◌, ◌++◌, length, bytes_eq, Option, Some, None}
 use Rattle.std.specs.List.{list_any}
 use Rattle.std.specs.Option.{option_map_or}
 use Rattle.std.proofs.lemmas.Bool.{lt-ltb}
-use Rattle.std.proofs.lemmas.List.{length_push, map_push}
+use Rattle.std.proofs.lemmas.List.{length_push}
 use Rattle.std.proofs.lemmas.List.Folds.{list_any-append}
 use Rattle.model_data.specs.Lawful.{IsLawful, term_count}
 use Rattle.model_data.specs.declared.limits.TheConstants.{MAX_ROWS, MAX_TERMS, MAX_VARS}
 use Rattle.model_data.specs.declared.model.Model.{Model}
 use Rattle.model_data.specs.declared.model.Var.{Var}
 use Rattle.model_core.specs.Indexed.{IsIndexOf}
-use Rattle.model_core.specs.Named.{has_tag, knows_tag, knows_var}
+use Rattle.model_core.specs.Named.{has_tag, knows_tag}
 use Rattle.model_core.specs.One.{has_duplicate, is_too_large}
 use Rattle.model_core.specs.declared.change.Change.TheVariants.{AddVar}
 use Rattle.model_core.specs.declared.tables.Tables.{Tables}

@@ -1,5 +1,5 @@
 -- A list with the item at a place changed or taken away.
-use Rattle.std.proofs.Common.{◌≡◌, refl, sym, ◌∙◌, ap, arith, ℕ, zero, suc, ◌+◌, ◌-◌, ◌<◌, ◌≤◌, nat_lt, Bool, true, false, not, cond, ◌&&◌, ◌||◌, if◌then◌else◌}
+use Rattle.std.proofs.Common.{◌≡◌, refl, sym, ◌∙◌, ap, arith, ℕ, zero, suc, ◌+◌, ◌-◌, ◌<◌, ◌≤◌, nat_lt, Bool, true, false, not, cond, ◌&&◌, ◌||◌}
 use Rattle.std.proofs.Common.{List, [], ◌∷◌, ◌++◌, length, take, drop, filter, set, slice_get, get_or, Option, Some, None, sum_by}
 use Rattle.std.specs.List.{list_any, remove}
 use Rattle.std.specs.Option.{option_map_or}
@@ -19,9 +19,9 @@ at_place-set change [] i d within = absurd (omega (arith, within))
 at_place-set change (x ∷ xs) zero d within = refl
 at_place-set change (x ∷ xs) (suc i) d within =
     behind (slice_get xs i) ∙ ap (λ l. x ∷ l) (at_place-set change xs i d (omega (arith, within))) where
-  behind : (o : Option _) → option_map_or (λ y. x ∷ set xs i (change y)) o (x ∷ xs) ≡ x ∷ option_map_or (λ y. set xs i (change y)) o xs
-  behind (Some y) = refl
-  behind None = refl
+      behind : (o : Option _) → option_map_or (λ y. x ∷ set xs i (change y)) o (x ∷ xs) ≡ x ∷ option_map_or (λ y. set xs i (change y)) o xs
+      behind (Some y) = refl
+      behind None = refl
 
 swap_or : (a b c : Bool) → (a || (b || c)) ≡ (b || (a || c))
 swap_or true true c = refl

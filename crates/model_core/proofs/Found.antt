@@ -1,5 +1,5 @@
 -- What is found by name in a model.
-use Rattle.std.proofs.Common.{◌≡◌, refl, sym, ◌∙◌, ap, ℕ, ◌<◌, Bool, if◌then◌else◌, List, [], ◌∷◌, get_or, slice_get, length, true, false, position, bytes_eq, Option, Some, None}
+use Rattle.std.proofs.Common.{◌≡◌, refl, sym, ◌∙◌, ap, ℕ, ◌<◌, if◌then◌else◌, List, [], ◌∷◌, get_or, length, true, false, position, bytes_eq, Option, Some, None}
 use Rattle.std.specs.List.{list_any}
 use Rattle.std.proofs.lemmas.Option.{slice_get-get_or}
 use Rattle.model_data.specs.declared.model.Model.{Model}

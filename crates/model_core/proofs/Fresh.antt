@@ -25,12 +25,12 @@ new_name name_of xs i x read distinct within =
     let count = length-map xs name_of in
     subst (λ (l : List (List ℕ)). list_any (bytes_eq name) l ≡ false) (take-map name_of i xs)
     (list_any_none (bytes_eq name) (take i names) (λ k d below. false_from_ne_true (bytes_eq name (get_or (take i names) k d)) (λ e.
-        let before = short k below in
-        distinct k i d before (omega (arith, within, count))
-        (sym (get_or-take i names k d before) ∙ sym ((bytes_eq-Decides name (get_or (take i names) k d)).0 e)
-        ∙ ap name_of read ∙ sym (name_step name_of xs i d x within))))) where
-  short : (k : ℕ) → k < length (take i (map name_of xs)) → k < i
-  short k below = let count = length-map xs name_of in let most = length-take-le i (map name_of xs) (omega (arith, within, count)) in omega (arith, below, most)
+    let before = short k below in
+    distinct k i d before (omega (arith, within, count))
+    (sym (get_or-take i names k d before) ∙ sym ((bytes_eq-Decides name (get_or (take i names) k d)).0 e)
+    ∙ ap name_of read ∙ sym (name_step name_of xs i d x within))))) where
+      short : (k : ℕ) → k < length (take i (map name_of xs)) → k < i
+      short k below = let count = length-map xs name_of in let most = length-take-le i (map name_of xs) (omega (arith, within, count)) in omega (arith, below, most)
 
 -- a tag of a variable is that of none in front
 pub new_tag : (vars : List Var) (i : ℕ) (v : Var) (tag : List ℕ) → v ≡ get_or vars i v → HasDistinctTags vars → i < length vars → has_tag tag v ≡ true
@@ -38,9 +38,9 @@ pub new_tag : (vars : List Var) (i : ℕ) (v : Var) (tag : List ℕ) → v ≡ g
 new_tag vars i v tag read distinct within has =
     or_left (list_any (has_tag tag) (take i vars)) (list_any (has_tag tag) (drop (suc i) vars))
     (sym (list_any-append (has_tag tag) (take i vars) (drop (suc i) vars)) ∙ tags_apart tag vars i v distinct within (ap (has_tag tag) (sym read) ∙ has)) where
-  or_left : (a b : Bool) → (a || b) ≡ false → a ≡ false
-  or_left true b e = absurd cc
-  or_left false b e = refl
+      or_left : (a b : Bool) → (a || b) ≡ false → a ≡ false
+      or_left true b e = absurd cc
+      or_left false b e = refl
 
 -- one more item, as a loop comes to it
 pub AllWithin-item : {X : Type 0} (P : X → Type 0) (xs : List X) (i : ℕ) (x : X) → i < length xs → x ≡ get_or xs i x → P x →

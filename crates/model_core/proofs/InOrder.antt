@@ -1,7 +1,7 @@
 -- Terms that are put in order are those of the variables, one after the other.
-use Rattle.std.proofs.Common.{◌≡◌, ◌≢◌, refl, sym, ◌∙◌, ap, ap₂, subst, arith, ℕ, zero, suc, ◌+◌, ◌<◌, ◌≤◌, ◌==◌, nat_lt, Bool, true, false, not, cond, ◌&&◌, ◌||◌, if◌then◌else◌, ◌⊎◌, inl, inr, zero-add}
+use Rattle.std.proofs.Common.{◌≡◌, refl, sym, ◌∙◌, ap, ap₂, subst, arith, ℕ, zero, suc, ◌+◌, ◌<◌, ◌≤◌, ◌==◌, nat_lt, Bool, true, false, not, cond, ◌&&◌, ◌||◌, if◌then◌else◌, ◌⊎◌, inl, inr, zero-add}
 use Rattle.std.proofs.Common.{List, [], ◌∷◌, ◌++◌, length, map, filter, get_or, bytes_eq, All, sum_by, Contains}
-use Rattle.std.specs.List.{list_all, list_any, position_or_len}
+use Rattle.std.specs.List.{list_all, list_any}
 use Rattle.std.specs.List.Sorted.{IsNonDecreasingBy, IsPermutation}
 use Rattle.std.proofs.lemmas.Bool.{eq-eqb, eqb-true, false_from_ne_true, false≢true, ne_eqb}
 use Rattle.std.proofs.lemmas.List.Folds.{list_any_at}
@@ -9,10 +9,10 @@ use Rattle.std.proofs.lemmas.List.Kept.{AllPairs-cons, AllPairs-filter}
 use Rattle.std.proofs.lemmas.List.Sorted.{Contains-permutation, IsPermutation-sym, sum_by-IsPermutation}
 use Rattle.std.proofs.lemmas.List.Sums.{sum_by-cons}
 use Rattle.std.proofs.lemmas.Slice.Eq.{bytes_eq-Decides}
-use Rattle.frac128.specs.Fraction.{Fraction, zero_value}
+use Rattle.frac128.specs.Fraction.{Fraction}
 use Rattle.model_data.specs.Lawful.{AreDistinct}
 use Rattle.model_data.specs.declared.model.Term.{Term}
-use Rattle.model_core.specs.Effect.{coefficient_of, is_zero, term_of, terms_from}
+use Rattle.model_core.specs.Effect.{coefficient_of, is_zero, terms_from}
 use Rattle.model_core.specs.One.{has_double}
 use Rattle.model_core.specs.Placed.{has_double_var, place_of, placed}
 use Rattle.model_core.specs.Rising.{IsRising}
@@ -106,8 +106,8 @@ same_terms (x ∷ xs) (y ∷ ys) rx ry f g =
     let head = same_head x y xs ys rx ry (f x (inl refl)) (g y (inl refl)) in
     ap₂ (λ (t : Term) (ts : List Term). t ∷ ts) head
     (same_terms xs ys (rest_rising x xs rx) (rest_rising y ys ry)
-        (λ t h. in_rest t x y ys head (above x xs rx t h) (f t (inr h)))
-        (λ t h. in_rest t y x xs (sym head) (above y ys ry t h) (g t (inr h))))
+    (λ t h. in_rest t x y ys head (above x xs rx t h) (f t (inr h)))
+    (λ t h. in_rest t y x xs (sym head) (above y ys ry t h) (g t (inr h))))
 
 -- what is found of a name that stands among the names
 found_step : (name text : List ℕ) (b : Bool) (r : ℕ) (names : List (List ℕ)) → bytes_eq name text ≡ b → (b ≡ false → (r < length names) × (get_or names r [] ≡ name))
@@ -130,9 +130,9 @@ known_at [] i within = absurd (omega (arith, within))
 known_at (text ∷ names) zero within = ap (λ b. b || list_any (bytes_eq text) names) ((bytes_eq-Decides text text).1 refl)
 known_at (text ∷ names) (suc i) within =
     ap (λ r. bytes_eq (get_or names i []) text || r) (known_at names i (omega (arith, within))) ∙ or_true (bytes_eq (get_or names i []) text) where
-  or_true : (b : Bool) → (b || true) ≡ true
-  or_true true = refl
-  or_true false = refl
+      or_true : (b : Bool) → (b || true) ≡ true
+      or_true true = refl
+      or_true false = refl
 
 -- the place of the name at a place is that place
 place_at : (names : List (List ℕ)) (i : ℕ) → AreDistinct names → i < length names → place_of names (get_or names i []) ≡ i
@@ -142,8 +142,8 @@ place_at names i distinct within =
     by_order (place_of names name) i (nat_lt (place_of names name) i) refl
     (λ lt. absurd (distinct (place_of names name) i [] lt within (found.1)))
     (λ le. by_order i (place_of names name) (nat_lt i (place_of names name)) refl
-        (λ lt. absurd (distinct i (place_of names name) [] lt (found.0) (sym (found.1))))
-        (λ ge. omega (arith, le, ge)))
+    (λ lt. absurd (distinct i (place_of names name) [] lt (found.0) (sym (found.1))))
+    (λ ge. omega (arith, le, ge)))
 
 -- what the terms say of a name that stands once among them
 or_false_left : (a b : Bool) → (a || b) ≡ false → a ≡ false
@@ -171,8 +171,8 @@ only_coefficient t (u ∷ terms) single (inr h) =
     let names = map (λ (v : NamedTerm). v.name) terms in
     let apart = or_false_left (list_any (bytes_eq u.name) names) (has_double names) single in
     let other : bytes_eq t.name u.name ≡ false = false_from_ne_true (bytes_eq t.name u.name) (λ same.
-        false≢true (sym apart ∙ any_in (bytes_eq u.name) t.name names (map_in (λ (v : NamedTerm). v.name) t terms h)
-        ((bytes_eq-Decides u.name t.name).1 (sym ((bytes_eq-Decides t.name u.name).0 same))))) in
+    false≢true (sym apart ∙ any_in (bytes_eq u.name) t.name names (map_in (λ (v : NamedTerm). v.name) t terms h)
+    ((bytes_eq-Decides u.name t.name).1 (sym ((bytes_eq-Decides t.name u.name).0 same))))) in
     ap (λ (b : Bool). if b then u.coef else coefficient_of t.name terms) other
     ∙ only_coefficient t terms (or_false_right (list_any (bytes_eq u.name) names) (has_double names) single) h
 
@@ -244,7 +244,7 @@ terms_in k (name ∷ names) terms (suc i) t within is other =
     let place : suc k + i ≡ k + suc i = omega arith in
     other_item k (coefficient_of name terms) t (terms_from (suc k) names terms) (is_zero (coefficient_of name terms))
     (terms_in (suc k) names terms i t (omega (arith, within))
-        (ap (λ (n : ℕ). record { var = n; coef = coefficient_of (get_or names i []) terms }) place ∙ is) other)
+    (ap (λ (n : ℕ). record { var = n; coef = coefficient_of (get_or names i []) terms }) place ∙ is) other)
 
 at_in : {X : Type 0} (xs : List X) (j : ℕ) (d : X) → j < length xs → In (get_or xs j d) xs
 at_in [] j d within = absurd (omega (arith, within))
@@ -267,7 +267,7 @@ rising_from k [] terms = λ i j d before within. absurd (omega (arith, within))
 rising_from k (name ∷ names) terms =
     rising_step k (coefficient_of name terms) (terms_from (suc k) names terms) (is_zero (coefficient_of name terms)) (rising_from (suc k) names terms)
     (λ t h. let found = in_terms (suc k) names terms t h in
-        let is : t.var ≡ suc k + found.0 = ap (λ (u : Term). u.var) (found.1.1) in omega (arith, is))
+    let is : t.var ≡ suc k + found.0 = ap (λ (u : Term). u.var) (found.1.1) in omega (arith, is))
 
 -- where each term stands within the names, and isn't 0
 pub within_from : (names : List (List ℕ)) (terms : List NamedTerm) (t : Term) → In t (terms_from 0 names terms) → (t.var < length names) × (is_zero t.coef ≡ false)
@@ -357,9 +357,9 @@ double_moved : (xs ys : List Term) → IsPermutation xs ys → has_double_var xs
 unfolding IsDoubled
 double_moved xs ys moves = same_bool (has_double_var xs) (has_double_var ys)
     (λ a b. let two = double_count xs a in let many = two.1 in let few = single_count ys b (two.0) in
-        let same = sum_by-IsPermutation (one (two.0)) xs ys moves in omega (arith, many, few, same))
+    let same = sum_by-IsPermutation (one (two.0)) xs ys moves in omega (arith, many, few, same))
     (λ a b. let two = double_count ys b in let many = two.1 in let few = single_count xs a (two.0) in
-        let same = sum_by-IsPermutation (one (two.0)) xs ys moves in omega (arith, many, few, same))
+    let same = sum_by-IsPermutation (one (two.0)) xs ys moves in omega (arith, many, few, same))
 
 or_true : (b : Bool) → (b || true) ≡ true
 or_true true = refl
@@ -378,7 +378,7 @@ pub single_rising : (xs : List Term) → IsNonDecreasingBy (λ (t : Term). t.var
 single_rising xs order single i j d before within =
     by_order (get_or xs i d).var (get_or xs j d).var (nat_lt (get_or xs i d).var (get_or xs j d).var) refl (λ h. h)
     (λ le. let ge = order i j d (omega (arith, before)) within in
-        absurd (false≢true (sym single ∙ double_at xs i j d before within (omega (arith, le, ge)))))
+    absurd (false≢true (sym single ∙ double_at xs i j d before within (omega (arith, le, ge)))))
 
 none_equal : (n : ℕ) (xs : List Term) → All (λ t. n < t.var) xs → list_any (λ u. n == u.var) xs ≡ false
 none_equal n [] h = refl
@@ -448,9 +448,9 @@ module _ (names : List (List ℕ)) where
           terms_in 0 names terms (place_of names named.name) t (place.0)
           (ap₂ (λ (n : ℕ) (x : Fraction). record { var = n; coef = x }) (zero-add (place_of names named.name)) value ∙ source.1.1)
           (ap is_zero (value ∙ coef) ∙ not_true (is_zero t.coef) (kept.1)) where
-        not_true : (b : Bool) → not b ≡ true → b ≡ false
-        not_true true e = sym e
-        not_true false e = refl
+            not_true : (b : Bool) → not b ≡ true → b ≡ false
+            not_true true e = sym e
+            not_true false e = refl
 
       back : (t : Term) → In t (terms_from 0 names terms) → In t (filter (λ u. not (is_zero u.coef)) ordered)
       unfolding IsItem item FoundTerm
@@ -466,7 +466,7 @@ module _ (names : List (List ℕ)) where
           ap₂ (λ (n : ℕ) (x : Fraction). record { var = n; coef = x }) place (sym (source.1.2)) ∙ sym (found.1.1) in
           filter_in (λ (u : Term). not (is_zero u.coef)) t ordered
           (moved_in t (map (placed names) terms) ordered moves
-              (subst (λ (u : Term). In u (map (placed names) terms)) same (map_in (placed names) named terms (source.1.0))))
+          (subst (λ (u : Term). In u (map (placed names) terms)) same (map_in (placed names) named terms (source.1.0))))
           (ap not (ap (λ (u : Term). is_zero u.coef) (found.1.1) ∙ found.1.2))
 
       pub in_order : filter (λ t. not (is_zero t.coef)) ordered ≡ terms_from 0 names terms

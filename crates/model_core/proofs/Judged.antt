@@ -1,8 +1,8 @@
 -- Which answer a change gets, by what is known of it.
-use Rattle.std.proofs.Common.{◌≡◌, refl, sym, ◌∙◌, ap, ap₂, ℕ, ◌≤◌, nat_lt, Bool, true, false, not, ◌||◌, if◌then◌else◌, length, Result, Ok, Err}
+use Rattle.std.proofs.Common.{◌≡◌, refl, ap, ap₂, ◌≤◌, Bool, true, false, ◌||◌, if◌then◌else◌, length, Ok, Err}
 use Rattle.std.proofs.lemmas.Bool.{le-ltb}
 use Rattle.base_names.specs.declared.refusal.Refusal.TheVariants.{DUPLICATE, NAME, SIZE}
-use Rattle.model_data.specs.Lawful.{IsLawful, term_count}
+use Rattle.model_data.specs.Lawful.{term_count}
 use Rattle.model_data.specs.declared.limits.TheConstants.{MAX_ROWS, MAX_TERMS, MAX_VARS}
 use Rattle.model_data.specs.declared.model.Model.{Model}
 use Rattle.model_core.specs.One.{answer, is_too_large}

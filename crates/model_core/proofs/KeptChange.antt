@@ -1,8 +1,7 @@
 -- A change keeps the numbers of a model in lowest terms.
-use Rattle.std.proofs.Common.{◌≡◌, refl, sym, ◌∙◌, ap, subst, arith, ℕ, zero, suc, ◌==◌, nat_lt, Bool, true, false, not, if◌then◌else◌, ◌-◌, Some, List, [], ◌∷◌, ◌++◌, map, filter, bytes_eq, Result, Ok, Err, OnOk, OnErr, All}
-use Rattle.std.proofs.lemmas.List.Elements.{All-cons, All-nil}
+use Rattle.std.proofs.Common.{◌≡◌, refl, sym, ◌∙◌, ap, subst, ℕ, suc, ◌==◌, nat_lt, Bool, true, false, not, if◌then◌else◌, ◌-◌, Some, List, [], ◌∷◌, map, filter, bytes_eq, Result, Ok, Err, OnOk, OnErr, All}
+use Rattle.std.proofs.lemmas.List.Elements.{All-nil}
 use Rattle.base_names.specs.declared.refusal.Refusal.{Refusal}
-use Rattle.frac128.specs.Fraction.{Fraction}
 use Rattle.frac128.specs.Lowest.{IsKept}
 use Rattle.model_data.specs.Kept.{HasKeptNumbers, IsKeptRow, IsKeptVar}
 use Rattle.model_data.specs.declared.model.Model.{Model}

@@ -1,7 +1,7 @@
 -- A change keeps a lawful model lawful.
 use Rattle.std.proofs.Common.{◌≡◌, ◌≢◌, refl, sym, ◌∙◌, ap, ap₂, subst, arith, ℕ, suc, ◌+◌, ◌<◌, ◌≤◌, nat_lt, Bool, true, false, not, ◌&&◌, ◌||◌, if◌then◌else◌}
 use Rattle.std.proofs.Common.{List, [], ◌∷◌, ◌++◌, length, map, filter, filter_map, bytes_eq, Option, Some, None, Result, Ok, Err, OnOk, OnErr, All, pos}
-use Rattle.std.specs.List.{cons_option, list_all, list_any}
+use Rattle.std.specs.List.{cons_option, list_all}
 use Rattle.std.specs.Option.{option_map_or}
 use Rattle.std.proofs.lemmas.Bool.{ltb-false}
 use Rattle.std.proofs.lemmas.List.{append-nil, length-map, length_push, map_push}
@@ -10,7 +10,7 @@ use Rattle.std.proofs.lemmas.List.Edits.{length-remove}
 use Rattle.base_names.specs.declared.refusal.Refusal.{Refusal}
 use Rattle.base_names.specs.declared.refusal.Refusal.TheVariants.{SIZE}
 use Rattle.frac128.specs.Fraction.{Fraction}
-use Rattle.model_data.specs.Lawful.{AreDistinct, IsBelowBoundSize, IsLawful, IsLawfulRow, IsLawfulVar, term_count}
+use Rattle.model_data.specs.Lawful.{AreDistinct, IsLawful, IsLawfulRow, IsLawfulVar, term_count}
 use Rattle.model_data.specs.Names.{is_name}
 use Rattle.model_data.specs.declared.limits.TheConstants.{MAX_ROWS, MAX_TERMS, MAX_VARS}
 use Rattle.model_data.specs.declared.model.Model.{Model}
@@ -21,7 +21,7 @@ use Rattle.model_data.specs.declared.model.Var.{Var}
 use Rattle.model_core.specs.Asked.{IsLawfulChange}
 use Rattle.model_core.specs.Effect.{changed, in_row, on_row, on_var, terms_from, with_coefficient, without_place}
 use Rattle.model_core.specs.Field.{with_tag}
-use Rattle.model_core.specs.Named.{has_tag, is_row, is_var, knows_row, knows_tag, knows_var, var_place}
+use Rattle.model_core.specs.Named.{is_row, is_var, knows_row, knows_tag, knows_var, var_place}
 use Rattle.model_core.specs.One.{answer, has_double, has_duplicate, has_names, is_too_large, one}
 use Rattle.model_core.specs.declared.change.Change.{Change}
 use Rattle.model_core.specs.declared.change.Change.TheVariants.{AddVar, AddConstr, ChgCoeff, SetLb, SetUb, SetObj, SetRhs, SetSense, SetKind, SetTag, DelVar, DelConstr}
@@ -99,13 +99,13 @@ module _ (m : Model) (h : IsLawful m) where
       → IsLawful (on_var name change m)
   field_changed name change small keeps names tags =
       var_changed name change small keeps names (subst AreDistinct (sym (same_tags m.vars)) h.tags) where
-    tag_step : (b : Bool) (v : Var) → (if b then change v else v).tag ≡ v.tag
-    tag_step true v = tags v
-    tag_step false v = refl
+        tag_step : (b : Bool) (v : Var) → (if b then change v else v).tag ≡ v.tag
+        tag_step true v = tags v
+        tag_step false v = refl
 
-    same_tags : (vars : List Var) → filter_map (λ v. v.tag) (map (λ v. if is_var name v then change v else v) vars) ≡ filter_map (λ v. v.tag) vars
-    same_tags [] = refl
-    same_tags (v ∷ vars) = ap₂ (λ (o : Option (List ℕ)) (l : List (List ℕ)). cons_option o l) (tag_step (is_var name v) v) (same_tags vars)
+        same_tags : (vars : List Var) → filter_map (λ v. v.tag) (map (λ v. if is_var name v then change v else v) vars) ≡ filter_map (λ v. v.tag) vars
+        same_tags [] = refl
+        same_tags (v ∷ vars) = ap₂ (λ (o : Option (List ℕ)) (l : List (List ℕ)). cons_option o l) (tag_step (is_var name v) v) (same_tags vars)
 
   -- one row changed
   row_changed : (name : List ℕ) (change : Row → Row) → is_too_large (on_row name change m) ≡ false
@@ -221,7 +221,7 @@ module _ (m : Model) (h : IsLawful m) where
   lawful_changed (ChgCoeff row var x) named single small asked =
       row_changed row (in_row (with_coefficient (var_place var m) x)) small
       (λ r k. set_lawful (var_place var m) x (length m.vars) r
-          (place_inside (λ (v : Var). v.name) var m.vars (and_right (knows_row row m) (knows_var var m) named)) k) (λ r. refl)
+      (place_inside (λ (v : Var). v.name) var m.vars (and_right (knows_row row m) (knows_var var m) named)) k) (λ r. refl)
   lawful_changed (SetLb name bound) named single small asked =
       field_changed name (λ v. record v { lower = bound }) small (λ v k. record { name = k.name; tag = k.tag; lower = asked; upper = k.upper }) (λ v. refl) (λ v. refl)
   lawful_changed (SetUb name bound) named single small asked =

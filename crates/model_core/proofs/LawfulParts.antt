@@ -1,9 +1,9 @@
 -- Lists of a lawful model, of which one item is changed, added or taken away.
-use Rattle.std.proofs.Common.{◌≡◌, ◌≢◌, refl, sym, ◌∙◌, ap, ap₂, subst, arith, ℕ, zero, suc, ◌+◌, ◌<◌, ◌≤◌, Bool, true, false, not, cond, ◌&&◌, ◌||◌, if◌then◌else◌}
-use Rattle.std.proofs.Common.{List, [], ◌∷◌, ◌++◌, length, map, filter, filter_map, get_or, bytes_eq, Option, Some, None, All, AllPairs}
+use Rattle.std.proofs.Common.{◌≡◌, ◌≢◌, refl, sym, ◌∙◌, ap, ap₂, subst, arith, ℕ, suc, Bool, true, false, not, cond, ◌&&◌, ◌||◌, if◌then◌else◌}
+use Rattle.std.proofs.Common.{List, [], ◌∷◌, ◌++◌, map, filter, filter_map, get_or, bytes_eq, Option, Some, None, All, AllPairs}
 use Rattle.std.specs.List.{cons_option, list_any}
 use Rattle.std.specs.Option.{option_map_or}
-use Rattle.std.proofs.lemmas.Bool.{false_from_ne_true, false≢true}
+use Rattle.std.proofs.lemmas.Bool.{false≢true}
 use Rattle.std.proofs.lemmas.List.Elements.{All-cons, All-nil}
 use Rattle.std.proofs.lemmas.List.Folds.{list_any_at}
 use Rattle.std.proofs.lemmas.List.Kept.{AllPairs-cons}
@@ -200,9 +200,9 @@ module _ (name new : List ℕ) where
   apart_rest (v ∷ vars) h k =
       ap₂ (λ a b. a || b)
       (unnamed (has_tag new v) (is_var name v) (or_left (has_tag new v && not (is_var name v)) (list_any (λ v. has_tag new v && not (is_var name v)) vars) h)
-          (or_left (is_var name v) (list_any (is_var name) vars) k))
+      (or_left (is_var name v) (list_any (is_var name) vars) k))
       (apart_rest vars (or_right (has_tag new v && not (is_var name v)) (list_any (λ v. has_tag new v && not (is_var name v)) vars) h)
-          (or_right (is_var name v) (list_any (is_var name) vars) k))
+      (or_right (is_var name v) (list_any (is_var name) vars) k))
 
   other_tag : (v : Var) (t : List ℕ) → has_tag new v ≡ false → v.tag ≡ Some t → t ≢ new
   other_tag v t h e same =

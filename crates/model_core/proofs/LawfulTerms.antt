@@ -1,6 +1,6 @@
 -- The terms of a lawful row, of which one is set, or from which a variable goes.
-use Rattle.std.proofs.Common.{◌≡◌, ◌≢◌, refl, sym, ◌∙◌, ap, subst, arith, ℕ, suc, ◌+◌, ◌-◌, ◌<◌, ◌≤◌, ◌==◌, nat_lt, Bool, true, false, not, cond, if◌then◌else◌}
-use Rattle.std.proofs.Common.{List, [], ◌∷◌, ◌++◌, map, filter, pos, unsigned_abs, All, AllPairs}
+use Rattle.std.proofs.Common.{◌≡◌, ◌≢◌, refl, sym, ◌∙◌, ap, subst, arith, ℕ, suc, ◌-◌, ◌<◌, ◌==◌, nat_lt, Bool, true, false, not, cond, if◌then◌else◌}
+use Rattle.std.proofs.Common.{List, [], ◌∷◌, ◌++◌, map, filter, pos, unsigned_abs, All}
 use Rattle.std.proofs.lemmas.Bool.{eqb-false, false≢true, ltb-false, ltb-true}
 use Rattle.std.proofs.lemmas.List.Elements.{All-cons, All-nil}
 use Rattle.std.proofs.lemmas.List.Kept.{AllPairs-cons, AllPairs-filter}
@@ -46,12 +46,12 @@ module _ (place : ℕ) (x : Fraction) where
       let above : All (λ t. place < t.var) back = all_passed (λ t. place < t.var) (λ t. nat_lt place t.var) terms (λ t e. ltb-true place t.var e) in
       pairs_append R (front ++ term_of place x) back
       (pairs_append R front (term_of place x) (AllPairs-filter R (λ t. nat_lt t.var place) terms h) (term_rises (is_zero x))
-          (all_weaker (λ t. t.var < place) (λ t. All (R t) (term_of place x)) front below (λ t lt. term_all (R t) (λ e. lt))))
+      (all_weaker (λ t. t.var < place) (λ t. All (R t) (term_of place x)) front below (λ t lt. term_all (R t) (λ e. lt))))
       (AllPairs-filter R (λ t. nat_lt place t.var) terms h)
       (all_append (λ t. All (R t) back) front (term_of place x)
-          (all_weaker (λ t. t.var < place) (λ t. All (R t) back) front below
-              (λ t lt. all_weaker (λ u. place < u.var) (R t) back above (λ u gt. omega (arith, lt, gt))))
-          (term_all (λ t. All (R t) back) (λ e. above)))
+      (all_weaker (λ t. t.var < place) (λ t. All (R t) back) front below
+      (λ t lt. all_weaker (λ u. place < u.var) (R t) back above (λ u gt. omega (arith, lt, gt))))
+      (term_all (λ t. All (R t) back) (λ e. above)))
 
   -- a row with one coefficient set
   pub set_lawful : (n : ℕ) (r : Row) → place < n → IsLawfulRow n r → IsLawfulRow n (in_row (with_coefficient place x) r)
@@ -104,7 +104,7 @@ module _ (place : ℕ) where
   rises_step false t rest e h k =
       AllPairs-cons (λ (s u : Term). s.var < u.var) (moved place t) (map (moved place) rest)
       (all_mapped (λ u. t.var < u.var) (λ u. (moved place t).var < u.var) (moved place) rest h
-          (λ u lt. less_step (nat_lt place t.var) (nat_lt place u.var) t u refl refl (eqb-false t.var place e) lt)) k
+      (λ u lt. less_step (nat_lt place t.var) (nat_lt place u.var) t u refl refl (eqb-false t.var place e) lt)) k
 
   dropped_rises : (terms : List Term) → IsRising terms → IsRising (without_place place terms)
   dropped_rises [] h = h
@@ -119,7 +119,7 @@ module _ (place : ℕ) where
     name = h.name;
     places = all_mapped (λ t. (t.var ≡ place → ⊥) × (t.var < suc n)) (λ t. t.var < n) (moved place) (others r.terms)
         (all_and (λ t. t.var ≡ place → ⊥) (λ t. t.var < suc n) (others r.terms) (others_apart r.terms)
-            (all_filter (λ t. t.var < suc n) (λ t. not (t.var == place)) r.terms h.places))
+        (all_filter (λ t. t.var < suc n) (λ t. not (t.var == place)) r.terms h.places))
         (λ t both. below_step (nat_lt place t.var) t refl (both.0) n within (both.1));
     rising = dropped_rises r.terms h.rising;
     not_zero = all_mapped (λ t. t.coef.num ≢ pos 0) (λ t. t.coef.num ≢ pos 0) (moved place) (others r.terms)

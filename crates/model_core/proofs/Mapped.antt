@@ -1,6 +1,6 @@
 -- Tests and places in a list, by what each item shows.
 use Rattle.std.proofs.Common.{◌≡◌, refl, ap, ap₂, ◌∙◌, sym, ℕ, suc, ◌+◌, nat_lt, Bool, not, cond, ◌||◌, if◌then◌else◌}
-use Rattle.std.proofs.Common.{List, [], ◌∷◌, ◌++◌, length, map, take, drop, position, Some, None}
+use Rattle.std.proofs.Common.{List, [], ◌∷◌, ◌++◌, map, take, drop, position, Some, None}
 use Rattle.std.specs.List.{list_any, prefix_len, remove}
 use Rattle.std.proofs.lemmas.List.{drop-map, length-map, map-append, take-map}
 

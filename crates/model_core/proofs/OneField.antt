@@ -4,7 +4,7 @@ use Rattle.std.specs.List.{list_any}
 use Rattle.std.specs.Option.{option_map_or}
 use Rattle.std.proofs.lemmas.List.{length-map}
 use Rattle.std.proofs.lemmas.List.Sums.{sum_by-cons}
-use Rattle.model_data.specs.Lawful.{IsLawful, term_count}
+use Rattle.model_data.specs.Lawful.{IsLawful}
 use Rattle.model_data.specs.declared.limits.TheConstants.{MAX_ROWS, MAX_TERMS, MAX_VARS}
 use Rattle.model_data.specs.declared.model.Model.{Model}
 use Rattle.model_data.specs.declared.model.Row.{Row}

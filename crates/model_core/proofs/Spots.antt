@@ -1,5 +1,5 @@
 -- Terms that rise by variable, parted at the place of a variable.
-use Rattle.std.proofs.Common.{◌≡◌, refl, sym, ◌∙◌, ap, ap₂, subst, arith, ℕ, zero, suc, ◌+◌, ◌<◌, ◌≤◌, ◌==◌, nat_lt, Bool, true, false, cond, if◌then◌else◌}
+use Rattle.std.proofs.Common.{◌≡◌, refl, sym, ◌∙◌, ap, ap₂, subst, arith, ℕ, zero, suc, ◌<◌, ◌≤◌, nat_lt, Bool, true, false, cond, if◌then◌else◌}
 use Rattle.std.proofs.Common.{List, [], ◌∷◌, ◌++◌, length, take, drop, filter, get_or, set, append_assoc}
 use Rattle.std.specs.List.{AllWithin, insert, remove}
 use Rattle.std.specs.List.Sorted.{IsPartitionedBy}
@@ -70,18 +70,18 @@ pub with-there : (var : ℕ) (x : Fraction) (terms : List Term) (i : ℕ) → Is
 with-there var x terms i h =
     parted (filter (λ t. nat_lt t.var var) terms) (term_of var x) (filter (λ t. nat_lt var t.var) terms) (take i terms) (drop (suc i) terms)
     (filter-front (λ t. nat_lt t.var var) terms i (omega (arith, h.within))
-        (λ k d low high. lt-ltb _ _ (h.before k d low high)) (λ k d low high. le-ltb _ _ (h.from k d low high)))
+    (λ k d low high. lt-ltb _ _ (h.before k d low high)) (λ k d low high. le-ltb _ _ (h.from k d low high)))
     (filter-back (λ t. nat_lt var t.var) terms (suc i) (omega (arith, h.within))
-        (λ k d low high. le-ltb _ _ (h.upto k d low high)) (λ k d low high. lt-ltb _ _ (h.behind k d low high)))
+    (λ k d low high. le-ltb _ _ (h.upto k d low high)) (λ k d low high. lt-ltb _ _ (h.behind k d low high)))
 
 pub with-missing : (var : ℕ) (x : Fraction) (terms : List Term) (i : ℕ) → IsMissing var terms i
     → with_coefficient var x terms ≡ take i terms ++ term_of var x ++ drop i terms
 with-missing var x terms i h =
     parted (filter (λ t. nat_lt t.var var) terms) (term_of var x) (filter (λ t. nat_lt var t.var) terms) (take i terms) (drop i terms)
     (filter-front (λ t. nat_lt t.var var) terms i h.within
-        (λ k d low high. lt-ltb _ _ (h.before k d low high)) (λ k d low high. le-ltb _ _ (let e = h.behind k d low high in omega (arith, e))))
+    (λ k d low high. lt-ltb _ _ (h.before k d low high)) (λ k d low high. le-ltb _ _ (let e = h.behind k d low high in omega (arith, e))))
     (filter-back (λ t. nat_lt var t.var) terms i h.within
-        (λ k d low high. le-ltb _ _ (let e = h.before k d low high in omega (arith, e))) (λ k d low high. lt-ltb _ _ (h.behind k d low high)))
+    (λ k d low high. le-ltb _ _ (let e = h.before k d low high in omega (arith, e))) (λ k d low high. lt-ltb _ _ (h.behind k d low high)))
 
 term-zero : (var : ℕ) (x : Fraction) → is_zero x ≡ true → term_of var x ≡ []
 term-zero var x e = ap (λ (b : Bool). if b then [] else record { var = var; coef = x } ∷ []) e

@@ -1,6 +1,6 @@
 -- The tags of a model's variables, and the table of them.
-use Rattle.std.proofs.Common.{◌≡◌, ◌≢◌, refl, sym, ◌∙◌, ap, ap₂, subst, arith, ℕ, zero, suc, ◌<◌, Bool, true, false, not, ◌&&◌, ◌||◌, if◌then◌else◌}
-use Rattle.std.proofs.Common.{List, [], ◌∷◌, ◌++◌, length, map, filter, filter_map, get_or, position, bytes_eq, Option, Some, None, All, AllPairs}
+use Rattle.std.proofs.Common.{◌≡◌, ◌≢◌, refl, sym, ◌∙◌, ap, ap₂, arith, ℕ, zero, suc, ◌<◌, Bool, true, false, not, ◌&&◌, ◌||◌}
+use Rattle.std.proofs.Common.{List, [], ◌∷◌, ◌++◌, length, filter_map, get_or, position, bytes_eq, Option, Some, None, All}
 use Rattle.std.specs.List.{cons_option, list_any, remove}
 use Rattle.std.specs.Option.{option_map_or}
 use Rattle.std.proofs.lemmas.Bool.{false_from_ne_true, false≢true}
@@ -93,18 +93,18 @@ module _ {tables : Tables} {m : Model} (index : IsIndexOf tables m) (lawful : Is
       ∙ any-filter_not (is_var name) m.vars in
       any-remove (λ w. has_tag tag w && not (is_var name w)) m.vars place v within
       ∙ ap₂ (λ a b. a || b) (not_itself (has_tag tag (get_or m.vars place v)) (is_var name (get_or m.vars place v)) named)
-        (any-and_not (has_tag tag) (is_var name) others unnamed)
+      (any-and_not (has_tag tag) (is_var name) others unnamed)
       ∙ by_own (has_tag tag v) refl where
-    not_itself : (a b : Bool) → b ≡ true → (a && not b) ≡ false
-    not_itself a true e = and_false a
-    not_itself a false e = absurd cc
+        not_itself : (a b : Bool) → b ≡ true → (a && not b) ≡ false
+        not_itself a true e = and_false a
+        not_itself a false e = absurd cc
 
-    by_own : (b : Bool) → has_tag tag v ≡ b
-        → list_any (has_tag tag) (remove m.vars place) ≡ (list_any (bytes_eq tag) tables.tags.texts && not (has_tag tag v))
-    by_own true e = own_tag tag e ∙ sym (ap (λ b. list_any (bytes_eq tag) tables.tags.texts && not b) e ∙ and_false (list_any (bytes_eq tag) tables.tags.texts))
-    by_own false e =
-        sym (ap₂ (λ a b. a && not b) (index.tags tag ∙ known_elsewhere tag ∙ ap (λ b. b || list_any (has_tag tag) (remove m.vars place)) e) e
-        ∙ and_true (list_any (has_tag tag) (remove m.vars place)))
+        by_own : (b : Bool) → has_tag tag v ≡ b
+            → list_any (has_tag tag) (remove m.vars place) ≡ (list_any (bytes_eq tag) tables.tags.texts && not (has_tag tag v))
+        by_own true e = own_tag tag e ∙ sym (ap (λ b. list_any (bytes_eq tag) tables.tags.texts && not b) e ∙ and_false (list_any (bytes_eq tag) tables.tags.texts))
+        by_own false e =
+            sym (ap₂ (λ a b. a && not b) (index.tags tag ∙ known_elsewhere tag ∙ ap (λ b. b || list_any (has_tag tag) (remove m.vars place)) e) e
+            ∙ and_true (list_any (has_tag tag) (remove m.vars place)))
 
   -- the table with the variable's new tag
   pub retagged : (texts : List (List ℕ)) (new : List ℕ) → ((tag : List ℕ) → list_any (bytes_eq tag) texts ≡ list_any (has_tag tag) (remove m.vars place))
@@ -114,9 +114,9 @@ module _ {tables : Tables} {m : Model} (index : IsIndexOf tables m) (lawful : Is
       ∙ or_swap (list_any (bytes_eq tag) texts) (bytes_eq tag new)
       ∙ ap (λ b. bytes_eq tag new || b) (others tag)
       ∙ sym (ap (list_any (has_tag tag)) (at_place-set (with_tag new) m.vars place v within)
-        ∙ any-set (has_tag tag) m.vars place (with_tag new (get_or m.vars place v)) within) where
-    or_swap : (a b : Bool) → (a || (b || false)) ≡ (b || a)
-    or_swap true true = refl
-    or_swap true false = refl
-    or_swap false true = refl
-    or_swap false false = refl
+      ∙ any-set (has_tag tag) m.vars place (with_tag new (get_or m.vars place v)) within) where
+        or_swap : (a b : Bool) → (a || (b || false)) ≡ (b || a)
+        or_swap true true = refl
+        or_swap true false = refl
+        or_swap false true = refl
+        or_swap false false = refl

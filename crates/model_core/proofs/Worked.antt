@@ -11,7 +11,6 @@ use Rattle.model_data.specs.declared.model.Var.{Var}
 use Rattle.model_data.specs.declared.model.VarKind.TheVariants.{Continuous}
 use Rattle.model_core.specs.Look.{coefficient_at}
 use Rattle.model_core.specs.One.{after, fold, one}
-
 use Rattle.model_core.specs.declared.change.Change.TheVariants.{ChgCoeff, DelConstr, DelVar, SetObj, SetTag}
 
 abbrev var_of : List ℕ → Var

@@ -52,7 +52,7 @@ get_of name p = elim (parameter_of name) [ None ↦ Err PARAM | Some parameter �
 abbrev pub set_of : List ℕ → ℤ → Params → Result Params Refusal
 set_of name x p =
     elim (parameter_of name) [
-      None ↦ Err PARAM
-    | Some parameter ↦
-        if (int_le (least parameter) x && int_le x (greatest parameter)) then Ok (with_value parameter x p) else Err RANGE
+      | None ↦ Err PARAM
+      | Some parameter ↦
+          if (int_le (least parameter) x && int_le x (greatest parameter)) then Ok (with_value parameter x p) else Err RANGE
     ]

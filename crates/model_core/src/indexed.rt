@@ -117,9 +117,6 @@ impl IndexedModel {
         let Some(var) = self.tables.vars.place(var) else {
             return None;
         };
-        Some(coefficient(
-            self.model.rows.as_slice()[row].terms.as_slice(),
-            var as u32,
-        ))
+        Some(coefficient(self.model.rows.as_slice()[row].terms.as_slice(), var as u32))
     }
 }

@@ -78,12 +78,7 @@ fn new_row(
 }
 
 /// Adds a row of a new name, where it is within the limits.
-fn put_row(
-    alloc: Global,
-    model: &mut Model,
-    tables: &mut Tables,
-    row: Row,
-) -> Result<(), Refusal>
+fn put_row(alloc: Global, model: &mut Model, tables: &mut Tables, row: Row) -> Result<(), Refusal>
     requires index { IsIndexOf tables.old model.old }
     requires lawful { IsLawful model.old }
     requires new { list_any (bytes_eq row.name) tables.old.rows.texts ≡ false }

@@ -1,4 +1,4 @@
-use Rattle.std.proofs.Common.{◌≡◌, refl, sym, ◌∙◌, ap, ap₂, List}
+use Rattle.std.proofs.Common.{refl, sym, ◌∙◌, ap, ap₂, List}
 use Rattle.model_data.specs.declared.model.Model.{Model}
 use Rattle.model_core.specs.One.{fold}
 use Rattle.model_core.specs.declared.change.Change.{Change}

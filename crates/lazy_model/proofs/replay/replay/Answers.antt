@@ -1,4 +1,4 @@
-use Rattle.std.proofs.Common.{◌≡◌, ◌+◌, ◌<◌, ◌≤◌, ap, arith, drop, length}
+use Rattle.std.proofs.Common.{◌<◌, ap, arith, length}
 use Rattle.lazy_model.proofs.Logs.{no_items, one_shorter}
 use Rattle.lazy_model.proofs.replay.replay.Goals as goal
 

@@ -1,10 +1,9 @@
-use Rattle.std.proofs.Common.{rules, ◌≡◌, refl, sym, ◌∙◌, ap, ap₂, arith, ℕ, ◌<◌, ◌||◌, Bool, true, false, List, [], ◌∷◌, ◌++◌, length, map, bytes_eq, Option, Some, None, Ok, Err, inr, option_map, Vec, Global}
+use Rattle.std.proofs.Common.{rules, ◌≡◌, refl, sym, ◌∙◌, ap, ap₂, arith, ℕ, ◌||◌, Bool, true, false, List, [], ◌∷◌, ◌++◌, bytes_eq, Option, Some, None, Ok, inr, option_map, Vec, Global}
 use Rattle.std.specs.List.{list_any}
 use Rattle.std.specs.Option.{option_map_or}
 use Rattle.std.proofs.lemmas.List.{map_push}
 use Rattle.model_data.specs.Names.{is_name}
 use Rattle.model_data.specs.declared.model.Var.{Var}
-use Rattle.model_core.specs.Indexed.{IsIndexOf}
 use Rattle.model_core.proofs.Added.{tags_with, var_doubled, var_fits, var_too_many, with_var}
 use Rattle.model_core.proofs.Judged.{answer-duplicate, answer-ok, answer-size}
 use Rattle.model_core.proofs.addition.add_var.Goals as goal
@@ -87,7 +86,7 @@ returns-clause-index c =
       rows = c.requires.index.rows;
       tags = λ tag. c.add_tag.ensures tag
           ∙ ap₂ (λ (a b : Bool). a || b) (ap (list_any (bytes_eq tag)) tags ∙ c.requires.index.tags tag)
-              (told_tag c.in_ok-tag.tag v.tag c.in_ok-tag.ensures tag)
+          (told_tag c.in_ok-tag.tag v.tag c.in_ok-tag.ensures tag)
           ∙ sym (tags_with m v tag);
       terms = c.requires.index.terms;
     })

@@ -1,4 +1,4 @@
-use Rattle.std.proofs.Common.{◌≡◌, sym, ◌∙◌, ap, ap₂, ℕ, List, Bool, false, not, ◌&&◌, filter, Result, Ok}
+use Rattle.std.proofs.Common.{sym, ◌∙◌, ap, ap₂, ℕ, List, false, not, ◌&&◌, filter, Result, Ok}
 use Rattle.std.specs.List.{list_any}
 use Rattle.base_names.specs.declared.refusal.Refusal.{Refusal}
 use Rattle.frac128.specs.Fraction.{Fraction}

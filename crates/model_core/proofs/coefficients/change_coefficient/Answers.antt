@@ -1,4 +1,4 @@
-use Rattle.std.proofs.Common.{rules, ◌≡◌, refl, sym, ◌∙◌, ap, ap₂, subst, arith, ℕ, ◌<◌, ◌≤◌, List, length, map, Bool, true, false, ◌&&◌, Ok, Err, inr, Some, position, bytes_eq, if◌then◌else◌}
+use Rattle.std.proofs.Common.{◌≡◌, refl, sym, ◌∙◌, ap, ap₂, subst, arith, ℕ, ◌≤◌, List, Bool, true, false, ◌&&◌, Ok, inr, Some, position, bytes_eq, if◌then◌else◌}
 use Rattle.std.specs.List.{list_any}
 use Rattle.std.proofs.lemmas.List.{length-map}
 use Rattle.frac128.specs.Fraction.{Fraction}
@@ -10,7 +10,7 @@ use Rattle.model_data.specs.declared.model.Var.{Var}
 use Rattle.model_core.specs.Effect.{in_row, on_row, with_coefficient}
 use Rattle.model_core.specs.Field.{at_place}
 use Rattle.model_core.specs.Indexed.{IsIndexOf}
-use Rattle.model_core.specs.Named.{is_row, is_var, knows_row, knows_var, var_place}
+use Rattle.model_core.specs.Named.{is_row, knows_row, knows_var, var_place}
 use Rattle.model_core.specs.One.{is_too_large}
 use Rattle.model_core.specs.declared.tables.Tables.{Tables}
 use Rattle.model_core.proofs.AtPlace.{too_many_terms}
@@ -58,7 +58,7 @@ pub returns-then-count-gt-MAX_TERMS-clause-refused : goal.returns-then-count-gt-
 returns-then-count-gt-MAX_TERMS-clause-refused c =
     let m = c.args.model.now in
     let is = written c.requires.index c.requires.lawful c.args.row.now c.args.var.now c.args.coef
-        c.in-Some.ensures.place c.in-Some.ensures.found c.in-Some-place.ensures.place in
+    c.in-Some.ensures.place c.in-Some.ensures.found c.in-Some-place.ensures.place in
     let many = c.if-count-gt-MAX_TERMS.true in
     let count = c.count_after-count.ensures ∙ ap term_count is in
     inr (answer-size (knows_row c.args.row.now m && knows_var c.args.var.now m) false (next m c.args.row.now c.args.var.now c.args.coef)
@@ -69,21 +69,21 @@ pub returns-clause-ok : goal.returns-clause-ok
 returns-clause-ok c =
     let m = c.args.model.now in
     let is = written c.requires.index c.requires.lawful c.args.row.now c.args.var.now c.args.coef
-        c.in-Some.ensures.place c.in-Some.ensures.found c.in-Some-place.ensures.place in
+    c.in-Some.ensures.place c.in-Some.ensures.found c.in-Some-place.ensures.place in
     let most = c.if-count-gt-MAX_TERMS.false in
     let count = c.count_after-count.ensures ∙ ap term_count is in
     answer-ok (knows_row c.args.row.now m && knows_var c.args.var.now m) false (next m c.args.row.now c.args.var.now c.args.coef)
     (ap₂ (λ a b. a && b) (known_row c.requires.index c.args.row.now ∙ sym c.in-Some.ensures.found) (known_var c.requires.index c.args.var.now ∙ sym c.in-Some-place.ensures.found))
     refl
     (few c.requires.index c.requires.lawful c.args.row.now c.args.var.now c.args.coef
-        c.in-Some.ensures.place c.in-Some.ensures.found c.in-Some-place.ensures.place (omega (arith, most, count)))
+    c.in-Some.ensures.place c.in-Some.ensures.found c.in-Some-place.ensures.place (omega (arith, most, count)))
     ∙ ap Ok (sym (c.in_ok-put_coefficient.ensures.ok ∙ is))
 
 pub returns-clause-index : goal.returns-clause-index
 returns-clause-index c =
     let m = c.args.model.now in
     let is = written c.requires.index c.requires.lawful c.args.row.now c.args.var.now c.args.coef
-        c.in-Some.ensures.place c.in-Some.ensures.found c.in-Some-place.ensures.place in
+    c.in-Some.ensures.place c.in-Some.ensures.found c.in-Some-place.ensures.place in
     rw (c.in_ok-put_coefficient.ensures.ok ∙ is) (record {
       vars = c.requires.index.vars;
       rows = c.requires.index.rows ∙ sym (map-changed (λ (r : Row). r.name) (is_row c.args.row.now)

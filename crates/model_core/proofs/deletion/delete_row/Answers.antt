@@ -1,11 +1,9 @@
-use Rattle.std.proofs.Common.{◌<◌, ◌≡◌, refl, sym, ◌∙◌, ap, ap₂, subst, arith, ℕ, ◌+◌, ◌-◌, ◌≤◌, List, length, map, false, Ok, sum_by, filter, not, bytes_eq}
+use Rattle.std.proofs.Common.{◌<◌, ◌≡◌, refl, sym, ◌∙◌, ap, subst, arith, ℕ, List, length, false, Ok, filter, not}
 use Rattle.std.specs.List.{remove}
 use Rattle.std.proofs.lemmas.List.Edits.{length-remove}
 use Rattle.std.proofs.lemmas.List.Sums.{sum_by-remove}
-use Rattle.model_data.specs.Lawful.{term_count}
 use Rattle.model_data.specs.declared.model.Model.{Model}
 use Rattle.model_data.specs.declared.model.Row.{Row}
-use Rattle.model_core.specs.Indexed.{IsIndexOf}
 use Rattle.model_core.specs.Named.{is_row}
 use Rattle.model_core.specs.One.{is_too_large}
 use Rattle.model_core.proofs.ByName.{removed_at}

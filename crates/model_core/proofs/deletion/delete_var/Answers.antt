@@ -1,15 +1,13 @@
-use Rattle.std.proofs.Common.{◌<◌, ◌≡◌, refl, sym, ◌∙◌, ap, ap₂, subst, arith, ℕ, ◌+◌, ◌≤◌, List, length, map, true, false, Ok, sum_by, bytes_eq, position, Some, get_or}
+use Rattle.std.proofs.Common.{◌<◌, ◌≡◌, refl, sym, ◌∙◌, ap, ap₂, subst, arith, ℕ, ◌≤◌, List, length, map, true, false, Ok, bytes_eq, position, Some, get_or}
 use Rattle.std.specs.List.{list_any, remove}
 use Rattle.std.proofs.lemmas.List.{length-map}
 use Rattle.std.proofs.lemmas.List.Edits.{length-remove}
-use Rattle.model_data.specs.Lawful.{IsLawful, term_count}
+use Rattle.model_data.specs.Lawful.{IsLawful}
 use Rattle.model_data.specs.declared.limits.TheConstants.{MAX_ROWS}
 use Rattle.model_data.specs.declared.model.Model.{Model}
-use Rattle.model_data.specs.declared.model.Row.{Row}
 use Rattle.model_data.specs.declared.model.Var.{Var}
 use Rattle.model_core.specs.Effect.{in_row, without_place, without_var}
 use Rattle.model_core.specs.Indexed.{IsIndexOf}
-use Rattle.model_core.specs.Named.{has_tag, is_var, var_place}
 use Rattle.model_core.specs.One.{is_too_large}
 use Rattle.model_core.specs.declared.tables.Tables.{Tables}
 use Rattle.model_core.proofs.ByName.{place_is_found, removed_at}

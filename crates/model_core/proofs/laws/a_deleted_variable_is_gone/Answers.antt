@@ -1,5 +1,4 @@
-use Rattle.std.proofs.Common.{◌≡◌, sym, ◌∙◌, ap, List}
-use Rattle.std.specs.List.{list_any}
+use Rattle.std.proofs.Common.{sym, ◌∙◌, ap}
 use Rattle.model_data.specs.declared.model.Model.{Model}
 use Rattle.model_core.specs.Effect.{changed}
 use Rattle.model_core.specs.Named.{is_var, knows_var}

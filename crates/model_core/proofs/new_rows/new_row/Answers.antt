@@ -1,5 +1,5 @@
-use Rattle.std.proofs.Common.{◌≡◌, sym, ◌∙◌, ap, ap₂, ℕ, List, Bool, true, ◌&&◌, bytes_eq, map, inr, IfNone}
-use Rattle.std.specs.List.{list_all, list_any}
+use Rattle.std.proofs.Common.{◌≡◌, sym, ◌∙◌, ap, ap₂, ℕ, List, true, ◌&&◌, bytes_eq, map, inr}
+use Rattle.std.specs.List.{list_any}
 use Rattle.model_data.specs.Names.{is_name}
 use Rattle.model_core.specs.One.{has_double}
 use Rattle.model_core.proofs.NewRow.{none_of, row_name_taken, row_refused, row_term_doubled}

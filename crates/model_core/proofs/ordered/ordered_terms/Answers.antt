@@ -1,4 +1,4 @@
-use Rattle.std.proofs.Common.{◌≡◌, sym, ◌∙◌, ap, subst, List}
+use Rattle.std.proofs.Common.{sym, ◌∙◌, ap, subst, List}
 use Rattle.std.specs.List.Sorted.{IsPermutation}
 use Rattle.model_data.specs.declared.model.Term.{Term}
 use Rattle.model_core.specs.Placed.{has_double_var}
@@ -26,5 +26,5 @@ returns-clause-terms c =
     let single = ap has_double_var (sym c.as_slice.ensures.value) ∙ sym c.has_double_var.ensures ∙ c.if-has_double_var.false in
     c.leave_zeros_out.ensures
     ∙ in_order c.args.vars.now.texts c.args.terms.now c.in_ok-ordered.ensures.known ordered moves c.requires.distinct
-      (single_rising ordered c.put_in_order.ensures.order single)
-      (sym (double_names c.args.vars.now.texts c.args.terms.now c.in_ok-ordered.ensures.known ordered moves) ∙ single)
+    (single_rising ordered c.put_in_order.ensures.order single)
+    (sym (double_names c.args.vars.now.texts c.args.terms.now c.in_ok-ordered.ensures.known ordered moves) ∙ single)

@@ -1,4 +1,4 @@
-use Rattle.std.proofs.Common.{◌≡◌, ◌∙◌, ap, ap₂, List, ℕ, bytes_eq}
+use Rattle.std.proofs.Common.{◌∙◌, ap₂, List, ℕ, bytes_eq}
 use Rattle.std.specs.List.{list_any}
 use Rattle.model_data.specs.declared.model.Var.{Var}
 use Rattle.model_core.proofs.Fresh.{new_name}

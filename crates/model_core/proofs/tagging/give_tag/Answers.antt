@@ -1,10 +1,9 @@
-use Rattle.std.proofs.Common.{rules, ◌≡◌, refl, sym, ◌∙◌, ap, ap₂, ℕ, ◌<◌, ◌&&◌, Bool, true, false, not, List, [], ◌∷◌, ◌++◌, length, bytes_eq, Ok, inr, get_or}
+use Rattle.std.proofs.Common.{rules, ◌≡◌, refl, sym, ◌∙◌, ap, ℕ, ◌<◌, ◌&&◌, Bool, false, not, List, [], ◌∷◌, ◌++◌, length, bytes_eq, Ok, inr, get_or}
 use Rattle.std.specs.List.{list_any}
 use Rattle.model_data.specs.declared.model.Model.{Model}
 use Rattle.model_data.specs.declared.model.Var.{Var}
 use Rattle.model_core.specs.Effect.{on_var}
 use Rattle.model_core.specs.Field.{at_place, with_tag}
-use Rattle.model_core.specs.Indexed.{IsIndexOf}
 use Rattle.model_core.specs.Named.{has_tag, is_var, knows_var}
 use Rattle.model_core.proofs.ByName.{map-changed}
 use Rattle.model_core.proofs.Judged.{answer-duplicate, answer-name, answer-ok}
@@ -39,12 +38,12 @@ returns-clause-ok c =
     let known = known_var c.requires.index c.args.name.now ∙ sym c.in-Some.ensures.found in
     let found = place_of_var c.requires.index c.args.name.now ∙ sym c.in-Some.ensures.place in
     let free = taken c.requires.index c.requires.lawful c.in-Some.place c.index-as_slice-place.result inside (c.index-as_slice-place.is ∙ ap (λ (vars : List Var). get_or vars c.in-Some.place c.index-as_slice-place.result) c.as_slice.ensures) c.args.name.now c.args.tag.now found known
-        ∙ sym c.is_taken.ensures ∙ c.if-is_taken.false in
+    ∙ sym c.is_taken.ensures ∙ c.if-is_taken.false in
     let is = var_written c.requires.index c.args.name.now c.requires.lawful c.in-Some.ensures.place c.in-Some.ensures.found (with_tag c.args.tag.now) in
     answer-ok (knows_var c.args.name.now m) (doubled m c.args.name.now c.args.tag.now) (on_var c.args.name.now (with_tag c.args.tag.now) m) known free
     (on_var-within c.args.name.now (with_tag c.args.tag.now) m c.requires.lawful)
     ∙ ap Ok (sym (c.put_tag.ensures
-      ∙ ap (λ (tag : List ℕ). record m { vars = at_place c.in-Some.place (with_tag tag) m.vars }) c.in_ok-copy.ensures ∙ is))
+    ∙ ap (λ (tag : List ℕ). record m { vars = at_place c.in-Some.place (with_tag tag) m.vars }) c.in_ok-copy.ensures ∙ is))
 
 pub returns-clause-index : goal.returns-clause-index
 returns-clause-index c =

@@ -1,7 +1,6 @@
-use Rattle.std.proofs.Common.{◌≡◌, ◌+◌, ◌-◌, ◌∙◌, sym, ap, arith, length}
+use Rattle.std.proofs.Common.{◌∙◌, sym, ap, arith, length}
 use Rattle.std.proofs.lemmas.List.{length-set}
 use Rattle.std.proofs.lemmas.List.Edits.{length-insert, length-remove}
-use Rattle.model_core.specs.Effect.{with_coefficient}
 use Rattle.model_core.proofs.Spots.{left_out, put_in, replaced, taken_away}
 use Rattle.model_core.proofs.terms.count_with.Goals as goal
 

@@ -1,4 +1,4 @@
-use Rattle.std.proofs.Common.{◌≡◌, refl, sym, ap, ℤ, pos, negsuc, ℕ, suc, ◌==◌, Bool, true, false, unsigned_abs, IsTrue, ◌↔◌, arith}
+use Rattle.std.proofs.Common.{◌≡◌, refl, sym, ap, ℤ, pos, negsuc, ◌==◌, Bool, true, false, unsigned_abs, IsTrue, ◌↔◌, arith}
 use Rattle.std.proofs.lemmas.Bool.{false≢true, ne_eqb}
 use Rattle.model_core.proofs.terms.is_zero.Goals as goal
 

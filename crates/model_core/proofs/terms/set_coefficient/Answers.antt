@@ -1,7 +1,4 @@
-use Rattle.std.proofs.Common.{rules, ◌≡◌, ◌∙◌, sym, ap, List}
-use Rattle.model_data.specs.declared.model.Term.{Term}
-use Rattle.model_core.specs.Effect.{with_coefficient}
-use Rattle.model_core.specs.Rising.{IsMissing, IsThere}
+use Rattle.std.proofs.Common.{◌∙◌, sym}
 use Rattle.model_core.proofs.Spots.{left_out, put_in, replaced, taken_away}
 use Rattle.model_core.proofs.terms.set_coefficient.Goals as goal
 
@@ -29,6 +26,6 @@ pub returns-in_ok-insert-clause-ok : goal.returns-in_ok-insert-clause-ok
 returns-in_ok-insert-clause-ok c =
     let missing = c.spot_of-spot.ensures.missing c.if-spot-2.false in
     let put = put_in c.args.var c.args.coef c.args.terms.now.items c.spot_of-spot.result.place (rw c.as_slice.ensures.value at missing)
-        (sym c.is_zero.ensures ∙ c.if-is_zero.false) in
+    (sym c.is_zero.ensures ∙ c.if-is_zero.false) in
     let inserted = c.in_ok-insert.ensures.items in
     inserted ∙ sym put

@@ -1,4 +1,4 @@
-use Rattle.std.proofs.Common.{◌≡◌, sym, ◌∙◌, ap, ap₂, ℕ, List, [], Bool, get_or, Option, Some, None, if◌then◌else◌}
+use Rattle.std.proofs.Common.{◌≡◌, sym, ◌∙◌, ap, ap₂, ℕ, List, [], Bool, get_or, Some, None, if◌then◌else◌}
 use Rattle.frac128.specs.Fraction.{Fraction, zero_value}
 use Rattle.model_data.specs.declared.model.Row.{Row}
 use Rattle.model_data.specs.declared.model.Sense.TheVariants.{Less}
@@ -26,7 +26,7 @@ returns-in_default-place c =
     let r = get_or m.rows c.in-Some.row no_row in
     sym (ap (coefficient_of_row c.args.var.now m) (row_found c.self.invariant.index c.args.row.now c.in-Some.ensures.place c.in-Some.ensures.found c.in-Some.ensures.within no_row)
     ∙ ap (λ (b : Bool). if b then Some (coefficient_in (var_place c.args.var.now m) r.terms) else None)
-      (known_var c.self.invariant.index c.args.var.now ∙ sym c.in_default-place.ensures.found))
+    (known_var c.self.invariant.index c.args.var.now ∙ sym c.in_default-place.ensures.found))
     ∙ ap (coefficient_at c.args.row.now c.args.var.now) c.self.view_is
 
 pub returns : goal.returns
@@ -42,5 +42,5 @@ returns c =
     ap (λ (x : Fraction). Some x) (c.coefficient.ensures ∙ ap₂ (λ (n : ℕ) (l : List Term). coefficient_in n l) (sym place) terms)
     ∙ sym (ap (coefficient_of_row c.args.var.now m) (row_found c.self.invariant.index c.args.row.now c.in-Some.ensures.place c.in-Some.ensures.found c.in-Some.ensures.within d)
     ∙ ap (λ (b : Bool). if b then Some (coefficient_in (var_place c.args.var.now m) r.terms) else None)
-      (known_var c.self.invariant.index c.args.var.now ∙ sym c.in-Some-place.ensures.found))
+    (known_var c.self.invariant.index c.args.var.now ∙ sym c.in-Some-place.ensures.found))
     ∙ ap (coefficient_at c.args.row.now c.args.var.now) c.self.view_is

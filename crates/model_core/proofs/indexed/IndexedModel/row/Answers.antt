@@ -1,4 +1,4 @@
-use Rattle.std.proofs.Common.{◌≡◌, sym, ◌∙◌, ap, List, get_or, Some}
+use Rattle.std.proofs.Common.{sym, ◌∙◌, ap, List, get_or, Some}
 use Rattle.model_data.specs.declared.model.Row.{Row}
 use Rattle.model_core.specs.Look.{row_of}
 use Rattle.model_core.proofs.Found.{row_found, row_missing}

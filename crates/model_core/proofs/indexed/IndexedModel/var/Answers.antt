@@ -1,4 +1,4 @@
-use Rattle.std.proofs.Common.{◌≡◌, sym, ◌∙◌, ap, List, get_or, Some}
+use Rattle.std.proofs.Common.{sym, ◌∙◌, ap, List, get_or, Some}
 use Rattle.model_data.specs.declared.model.Var.{Var}
 use Rattle.model_core.specs.Look.{var_of}
 use Rattle.model_core.proofs.Found.{var_found, var_missing}

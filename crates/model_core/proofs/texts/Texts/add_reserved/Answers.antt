@@ -1,4 +1,4 @@
-use Rattle.std.proofs.Common.{◌≡◌, refl, ap, sym, ◌∙◌, [], ◌∷◌, ◌++◌, bytes_eq, List, ℕ, Bool, true, false, map, if◌then◌else◌, Vec, Global}
+use Rattle.std.proofs.Common.{◌≡◌, ap, sym, ◌∙◌, [], ◌∷◌, ◌++◌, bytes_eq, List, ℕ, Bool, true, false, map, if◌then◌else◌, Vec, Global}
 use Rattle.std.specs.List.{list_any}
 use Rattle.std.proofs.lemmas.List.{map_push}
 use Rattle.model_core.specs.Texts.{Table}

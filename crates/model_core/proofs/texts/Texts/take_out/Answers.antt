@@ -1,4 +1,4 @@
-use Rattle.std.proofs.Common.{◌≡◌, ◌≢◌, refl, ap, sym, ◌∙◌, bytes_eq, List, ℕ, true, false, Vec, Global}
+use Rattle.std.proofs.Common.{◌≡◌, ap, sym, ◌∙◌, bytes_eq, List, ℕ, true, false, Vec, Global}
 use Rattle.std.specs.List.{list_any}
 use Rattle.std.specs.Set.{KeepsOthers}
 use Rattle.std.proofs.lemmas.Bool.{false_from_ne_true, false≢true}
@@ -28,7 +28,7 @@ unfolding items KeepsOthers
 returns-clause-others c = λ other differ.
     any-map items (bytes_eq other) c.swap_remove.new.self.keys
     ∙ c.swap_remove.ensures.updates.3 (λ k. bytes_eq other k.items)
-        (λ x y e. same_test other x.items y.items e)
-        (λ k e. apart c.args.text.now other k.items differ e)
+    (λ x y e. same_test other x.items y.items e)
+    (λ k e. apart c.args.text.now other k.items differ e)
     ∙ sym (any-map items (bytes_eq other) c.self.inside.table.keys)
     ∙ ap (λ (t : Table). list_any (bytes_eq other) t.texts) c.self.view_is
