@@ -40,14 +40,14 @@ pub data WaitsWith : Symbol → FaultWord → Type 0 where
 -- Where a fault of tokens stands, with the spot of their end. The tokens before it can be gone on with.
 pub data IsPlaced (xs : List Seen) (end : Spot) : ModelFault → Type 0 where
   -- at a token: nothing that begins with those up to and with it spells a model
-  at_token : (front more : List Seen) (s : Spot) (symbol : Symbol) {w : FaultWord} → xs ≡ front ++ token s symbol ∷ more →
-      MayGoOn front → IsDeadEnd (front ++ token s symbol ∷ []) → IsPlaced xs end (fault_at s w)
+  at_token : (front more : List Seen) (s : Spot) (symbol : Symbol) {word : FaultWord} → xs ≡ front ++ token s symbol ∷ more →
+      MayGoOn front → IsDeadEnd (front ++ token s symbol ∷ []) → IsPlaced xs end (fault_at s word)
   -- at a token that the next one decides: nothing that begins with those up to and with that one does
-  at_decided : (front more : List Seen) (s : Spot) (symbol : Symbol) (next : Seen) {w : FaultWord} → xs ≡ front ++ token s symbol ∷ next ∷ more →
-      WaitsWith symbol w → IsBeginning front → IsDeadEnd (front ++ token s symbol ∷ next ∷ []) → IsPlaced xs end (fault_at s w)
-  -- at such a token, where none follows it
-  at_last : (front : List Seen) (s : Spot) (symbol : Symbol) {w : FaultWord} → xs ≡ front ++ token s symbol ∷ [] →
-      WaitsWith symbol w → IsBeginning front → IsPlaced xs end (fault_at s w)
+  at_decided : (front more : List Seen) (s : Spot) (symbol : Symbol) (next : Seen) {word : FaultWord} → xs ≡ front ++ token s symbol ∷ next ∷ more →
+      WaitsWith symbol word → IsBeginning front → IsDeadEnd (front ++ token s symbol ∷ next ∷ []) → IsPlaced xs end (fault_at s word)
+  -- at such a token, where none follows it, so that nothing decides
+  at_last : (front : List Seen) (s : Spot) (symbol : Symbol) {word : FaultWord} → xs ≡ front ++ token s symbol ∷ [] →
+      WaitsWith symbol word → IsBeginning front → IsPlaced xs end (fault_at s word)
   -- at a run that is no token, with that run's own fault
   at_run : (front more : List Seen) {own : ModelFault} → xs ≡ front ++ no_token own ∷ more → MayGoOn front → IsPlaced xs end own
   -- at the end

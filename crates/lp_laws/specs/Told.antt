@@ -56,8 +56,8 @@ abbrev pub begins_with_label : List Seen → Bool
 begins_with_label (token spot (name text) ∷ token colon_spot colon ∷ xs) = true
 begins_with_label xs = false
 
--- The tokens end where the first term of a row may stand before the rest. A row whose label is told has its name; another one
--- has that of its place, and its first token is no label.
+-- The tokens end where a row's first term may stand, and the rest stands there. The row has told no more than its name: that
+-- of its label, or of its place where the rest begins with no label.
 pub data BeginsRow (xs rest : List Seen) : Unfinished → Type 0 where
   unlabelled : {m : Model} → TellsRows xs m → MayOpen (default_title m) m → IsFalse (begins_with_label rest) → BeginsRow xs rest (new_row (default_title m) m)
   labelled : (rows label : List Seen) {m : Model} {text : List ℕ} → TellsRows rows m → OptionalLabel label (Some text) [] → MayOpen text m →
@@ -68,7 +68,8 @@ pub data Sum : Type 0 where
   objective : Model → Sum
   row : Unfinished → Sum
 
--- A term may stand between the tokens and begin the rest, and adds to the sum.
+-- The rest begins with a term, which adds to what the tokens before it have told. Only a first term needs no sign. That of the
+-- objective is left out: nothing is told before it, so that no sum and no limit refuses it.
 pub data TakesTerm (xs rest : List Seen) : Sum → Type 0 where
   in_objective : {m : Model} → TellsObjective xs m → IsTrue (begins_with_sign rest) → TakesTerm xs rest (objective m)
   first_in_row : {u : Unfinished} → BeginsRow xs rest u → TakesTerm xs rest (row u)
@@ -84,7 +85,7 @@ abbrev pub sum_of : List ℕ → Fraction → Sum → Option Fraction
 sum_of text x (objective m) = objective_sum text x m
 sum_of text x (row u) = row_sum text x u
 
--- whether the name with that coefficient is within the limits of variables and of terms
+-- The name with that coefficient passes the limit of variables or of terms.
 abbrev pub IsPastLimit : List ℕ → Fraction → Sum → Type 0
 IsPastLimit text sum (objective m) = with_objective text sum m ≡ None
 IsPastLimit text sum (row u) = with_term text sum u ≡ None

@@ -7,8 +7,9 @@ ghost use Rattle.lp_defs.specs.Tokens.{end_of};
 ghost use Rattle.lp_laws.specs.Faults.{IsFaultOf};
 ghost use Rattle.lp_laws.specs.Places.{IsPlaced};
 
-/// Where the first fault stands: the tokens before it can be gone on with to a text that spells a model, but for a number at
-/// their end, and nothing that begins with those up to it, and with the next one where that decides, spells one.
+/// The tokens before the fault can be gone on with to tokens that spell a model, but for a number at their end, in the place of
+/// which another one may be wanted. Where the fault is at a token, nothing that begins with the tokens up to and with it
+/// spells a model, or the next token or run decides it, and nothing that begins with both does.
 pub fn where_a_fault_stands()
     ensures { (text : List ℕ) (f : ModelFault) → IsFaultOf text f → IsPlaced (seen text) (spot_of (end_of text)) f }
 {}
