@@ -1,0 +1,8 @@
+mod Examples
+pub mod Lists
+pub mod Names
+pub mod Outcomes
+pub mod Owned
+pub mod Records
+pub mod Rising
+pub mod Rows
