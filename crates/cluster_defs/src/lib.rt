@@ -6,10 +6,12 @@
 
 mod ask;
 mod entry;
+mod placing_laws;
 mod reply;
 
 pub use ask::Ask;
 pub use entry::Entry;
+pub use placing_laws::{each_place_is_the_best, placing_repeats_the_rule};
 pub use reply::Reply;
 
 #[cfg(test)]
