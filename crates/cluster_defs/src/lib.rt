@@ -8,11 +8,13 @@ mod ask;
 mod entry;
 mod placing_laws;
 mod reply;
+mod step_laws;
 
 pub use ask::Ask;
 pub use entry::Entry;
 pub use placing_laws::{each_place_is_the_best, placing_repeats_the_rule};
 pub use reply::Reply;
+pub use step_laws::batches_are_kept_without_nodes;
 
 #[cfg(test)]
 mod tests;
