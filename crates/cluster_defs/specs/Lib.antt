@@ -7,11 +7,16 @@ pub mod Cluster
 pub mod Deeds
 pub mod Effects
 pub mod Entries
+pub mod Legal
 pub mod Listing
 pub mod Looks
 pub mod Opening
+pub mod Own
+pub mod OwnHistory
+pub mod Part
 pub mod Placement
 pub mod Places
+pub mod Reading
 pub mod Refusals
 pub mod Replies
 pub mod Site
