@@ -8,7 +8,7 @@ use Rattle.table_defs.specs.Table.{Table}
 use Rattle.cluster_defs.specs.Cluster.{Cluster}
 use Rattle.cluster_defs.specs.Entries.{faults_of}
 use Rattle.cluster_defs.specs.Legal.{GivenBack, IsLegal, IsLegalFrom, IsStep, back_at, given_back}
-use Rattle.cluster_defs.specs.Opening.{mounted, opened}
+use Rattle.cluster_defs.specs.Opened.{mounted, opened}
 use Rattle.cluster_defs.specs.Own.{Owned, own_step}
 use Rattle.cluster_defs.specs.OwnHistory.{entry_reading, own_history, own_opened, own_replies, own_replies_from, readings_from, replies_to}
 use Rattle.cluster_defs.specs.Part.{Part, part_of, placements_of}

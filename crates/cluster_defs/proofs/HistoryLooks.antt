@@ -8,7 +8,7 @@ use Rattle.cluster_defs.specs.Cluster.{Cluster}
 use Rattle.cluster_defs.specs.Entries.{faults_of}
 use Rattle.cluster_defs.specs.Legal.{GivenBack, IsLegal, IsLegalFrom, back_at, cluster_behind, cluster_from, given_back}
 use Rattle.cluster_defs.specs.Looks.{cut}
-use Rattle.cluster_defs.specs.Opening.{mounted, opened}
+use Rattle.cluster_defs.specs.Opened.{mounted, opened}
 use Rattle.cluster_defs.specs.Own.{Owned, own_step}
 use Rattle.cluster_defs.specs.OwnHistory.{entry_reading, own_cut, own_history, own_opened, own_part_from, readings_from}
 use Rattle.cluster_defs.specs.Part.{Part, part_of, placements_of}

@@ -19,7 +19,7 @@ use Rattle.cluster_defs.specs.Cluster.{Cluster}
 use Rattle.cluster_defs.specs.Deeds.{Asked, Deed, Finished, FinishReply, Left, Took}
 use Rattle.cluster_defs.specs.Entries as answers
 use Rattle.cluster_defs.specs.Entries.{EntryReply}
-use Rattle.cluster_defs.specs.Opening.{opened}
+use Rattle.cluster_defs.specs.Opened.{opened}
 use Rattle.cluster_defs.specs.Replies as tells
 use Rattle.cluster_defs.specs.Replies.{Reply}
 use Rattle.cluster_defs.specs.Site.{Limits, Site}

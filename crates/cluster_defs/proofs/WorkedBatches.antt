@@ -4,12 +4,15 @@ use Rattle.base_names.specs.declared.node.Waiter.TheVariants as waits
 use Rattle.base_names.specs.declared.refusal.OwnerLimit.TheVariants.{Commands, Bytes}
 use Rattle.base_names.specs.declared.refusal.Refusal.TheVariants.{BATCH, BATCHSTATE, DISK, JOURNALFULL, NODE, NOJOB, NONODE, OWNERFULL, RANGE, ROLE, STATE}
 use Rattle.table_defs.specs.Names.{is_id, is_owner}
-use Rattle.table_defs.specs.Table.{no_rows, submitted, aborted, completed}
+use Rattle.model_data.specs.declared.batch.BatchRecord.TheVariants as is
+use Rattle.cluster_defs.specs.Cluster.{Cluster}
+use Rattle.cluster_defs.specs.Told.{told}
+use Rattle.table_defs.specs.Table.{after, no_rows, submitted, aborted, completed}
 use Rattle.cluster_defs.specs.Asks as asks
 use Rattle.cluster_defs.specs.Deeds.{Asked, Back, Disk, Finished, Kept, Late}
 use Rattle.cluster_defs.specs.Entries as answers
 use Rattle.cluster_defs.specs.Looks.{cut}
-use Rattle.cluster_defs.specs.Opening.{opened}
+use Rattle.cluster_defs.specs.Opened.{opened}
 use Rattle.cluster_defs.specs.Replies as tells
 use Rattle.cluster_defs.specs.Step.{step}
 use Rattle.cluster_defs.specs.Waiters.{is_node, is_seat}
@@ -109,6 +112,15 @@ journal : IsTold (limited 1 1 0 record { commands = 65536; bytes = 8388608; jour
     ∷ [])
 unfolding is_owner is_id is_seat is_node
 journal = refl
+
+-- What ends an attempt is not refused for want of room, even where the journal was opened past its limit; all else is.
+abbrev past_limit : Cluster
+past_limit = opened (limited 1 1 0 record { commands = 65536; bytes = 8388608; journal = 1000 }) (after (is.Create (batch ada 1) 1 body ∷ is.Create (batch ada 2) 1 body ∷ []) no_rows) 990
+
+outcomes_fit : told (limited 1 1 0 record { commands = 65536; bytes = 8388608; journal = 1000 }) past_limit (Asked (seat 1 ada) (asks.Abort (batch ada 1)) ∷ Asked (seat 1 ada) (asks.Discard (batch ada 1)) ∷ Asked admin (asks.Fail (node 1)) ∷ [])
+    ≡ record { placed = work (batch ada 2) 1 1 ∷ []; reply = answers.Reply tells.Done } ∷ record { placed = []; reply = answers.Reply (tells.Refused (JOURNALFULL 1201200 1000)) } ∷ record { placed = []; reply = answers.Reply tells.Done } ∷ []
+unfolding is_owner is_id is_seat is_node
+outcomes_fit = refl
 
 -- A command whose record the disk refused changes nothing but the count; a result that it refused is placed as before.
 disk : ((step (site 1 1 0) (opened (site 1 1 0) no_rows 8) (Asked (seat 1 ada) (asks.Create body)) record { before = 3; after = 4 }).reply ≡ answers.Reply (tells.Refused (DISK 3 4)))

@@ -10,7 +10,7 @@ use Rattle.cluster_defs.specs.Cluster.{Cluster, Running}
 use Rattle.cluster_defs.specs.Deeds.{Asked, Deed, Disk, Finished, Left, Took}
 use Rattle.cluster_defs.specs.Entries as answers
 use Rattle.cluster_defs.specs.Entries.{Entry, EntryReply, faults_of}
-use Rattle.cluster_defs.specs.Opening.{opened}
+use Rattle.cluster_defs.specs.Opened.{opened}
 use Rattle.cluster_defs.specs.Refusals.{commands_refusal}
 use Rattle.cluster_defs.specs.Replies as tells
 use Rattle.cluster_defs.specs.Site.{Site}

@@ -1,5 +1,5 @@
 -- In which order jobs and batches are listed, and what a line says.
-use Rattle.std.specs.Prelude.{◌==◌, nat_lt, Bool, true, false, not, List, [], ◌∷◌, ◌++◌, filter, find, map, Option, Some, None, if◌then◌else◌}
+use Rattle.std.specs.Prelude.{◌≡◌, ⊤, ◌==◌, nat_lt, Bool, true, false, not, List, [], ◌∷◌, ◌++◌, filter, find, map, Option, Some, None, if◌then◌else◌}
 use Rattle.std.specs.Ordering.{nat_cmp, is_lt}
 use Rattle.std.specs.Cmp.Lexicographic.{slice_cmp}
 use Rattle.base_names.specs.declared.id.BatchId.{BatchId}
@@ -70,3 +70,14 @@ attempt_line placed row = record { waiter = waits.Batch row.id row.attempt; owne
 -- the seats' jobs, and then the submitted batches
 abbrev pub job_lines : Cluster → List JobLine
 job_lines c = map job_line (listed_jobs c.jobs) ++ map (attempt_line c.placed) (by_id (filter is_going_on c.table.rows))
+
+-- ---- their order
+
+abbrev pub IsNotBehind : Job → List Job → Type 0
+IsNotBehind job [] = ⊤
+IsNotBehind job (next ∷ jobs) = is_earlier next.seat job.seat ≡ false
+
+-- none stands before an earlier one
+abbrev pub IsInOrder : List Job → Type 0
+IsInOrder [] = ⊤
+IsInOrder (job ∷ jobs) = IsNotBehind job jobs × IsInOrder jobs

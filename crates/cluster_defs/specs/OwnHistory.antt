@@ -8,7 +8,7 @@ use Rattle.cluster_defs.specs.Cluster.{Cluster}
 use Rattle.cluster_defs.specs.Entries.{Entry, faults_of}
 use Rattle.cluster_defs.specs.Legal.{GivenBack, back_at, given_back}
 use Rattle.cluster_defs.specs.Looks.{cut}
-use Rattle.cluster_defs.specs.Opening.{mounted, opened}
+use Rattle.cluster_defs.specs.Opened.{mounted, opened}
 use Rattle.cluster_defs.specs.Own.{own_settled, own_step}
 use Rattle.cluster_defs.specs.Part.{Part, placements_of}
 use Rattle.cluster_defs.specs.Placement.{place}

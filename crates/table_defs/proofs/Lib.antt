@@ -1,4 +1,5 @@
 mod Examples
+pub mod Keyed
 pub mod Lists
 pub mod Names
 pub mod Outcomes

@@ -1,5 +1,5 @@
 -- How a filter goes with what is done to a list.
-use Rattle.std.proofs.Common.{◌≡◌, refl, ap, ◌∙◌, Bool, true, false, not, List, [], ◌∷◌, ◌++◌, None, cond, arith}
+use Rattle.std.proofs.Common.{length, ◌≤◌, arith, ◌≡◌, refl, ap, ◌∙◌, Bool, true, false, not, List, [], ◌∷◌, ◌++◌, None, cond, arith}
 use Rattle.std.specs.Prelude.{filter, find}
 use Rattle.std.proofs.lemmas.List.Elements.{filter-append}
 use Rattle.table_defs.specs.Lists.{changed, each, put}
@@ -58,3 +58,14 @@ put_other p test x other others xs = push_other p x other (filter (λ y. not (te
 pub find_push : {A : Type 0} (test : A → Bool) (x : A) (xs : List A) → find test xs ≡ None → find test (xs ++ x ∷ []) ≡ find test (x ∷ [])
 find_push test x [] none = refl
 find_push test x (y ∷ ys) none = grind (arith, none, find_push test x ys)
+
+pub filter_push : {A : Type 0} (p : A → Bool) (xs : List A) (x : A) (b : Bool) → p x ≡ b → filter p (xs ++ x ∷ []) ≡ filter p xs ++ cond b (x ∷ []) []
+filter_push p xs x b is = filter-append p xs (x ∷ []) ∙ ap (λ (c : Bool). filter p xs ++ cond c (x ∷ []) []) is
+
+pub none_filter : {A : Type 0} (p : A → Bool) (xs : List A) → find p xs ≡ None → filter p xs ≡ []
+none_filter p [] h = refl
+none_filter p (x ∷ xs) h = grind (arith, h, none_filter p xs)
+
+pub fewer : {A : Type 0} (p : A → Bool) (xs : List A) → length (filter p xs) ≤ length xs
+fewer p [] = omega arith
+fewer p (x ∷ xs) = grind (arith, fewer p xs)

@@ -3,6 +3,7 @@ ghost use Rattle.std.specs.Prelude.{◌≡◌, ◌≤◌, List, [], ◌∷◌, �
 ghost use Rattle.base_names.specs.declared.id.BatchId.{BatchId};
 ghost use Rattle.model_data.specs.declared.batch.AttemptOf.{AttemptOf};
 ghost use Rattle.model_data.specs.declared.batch.BatchRecord.{BatchRecord};
+ghost use Rattle.table_defs.specs.Keyed.{IsKeyed};
 ghost use Rattle.table_defs.specs.Names.{Owner};
 ghost use Rattle.table_defs.specs.Outcomes.{End, IsRising, IsRisingFrom, attempts_begun, numbers_given, outcomes};
 ghost use Rattle.table_defs.specs.Owned.{records_of, table_of};
@@ -27,4 +28,9 @@ pub fn numbers_are_never_used_twice()
 pub fn an_owners_table_is_that_of_its_records()
     ensures table { (u : Owner) (rs : List BatchRecord) (t : Table) → table_of u (after rs t) ≡ after (records_of u rs) (table_of u t) }
     ensures taken { (u : Owner) (rs : List BatchRecord) (t : Table) → AreTaken rs t → AreTaken (records_of u rs) (table_of u t) }
+{}
+
+/// Where each record is taken, no batch is there twice, and the number of each one that is there is given.
+pub fn each_batch_is_there_once()
+    ensures { (rs : List BatchRecord) → AreTaken rs no_rows → IsKeyed (after rs no_rows) }
 {}

@@ -1,0 +1,12 @@
+use Rattle.cluster_defs.proofs.Listings.{listed_once, listed_order}
+use Rattle.cluster_defs.proofs.SoundOpenings.{by_id_same}
+use Rattle.cluster_defs.proofs.standing_laws.jobs_are_listed_in_order.Goals as goal
+
+pub returns-clause-once : goal.returns-clause-once
+returns-clause-once c = listed_once
+
+pub returns-clause-ordered : goal.returns-clause-ordered
+returns-clause-ordered c = listed_order
+
+pub returns-clause-batches : goal.returns-clause-batches
+returns-clause-batches c = by_id_same

@@ -1,0 +1,52 @@
+//! What holds of a cluster behind every step and every history, as contracts without code.
+ghost use Rattle.std.specs.Prelude.{◌≡◌, ◌≤◌, ℕ, Bool, List, [], ◌∷◌, filter, is_some, length, not, true};
+ghost use Rattle.base_names.specs.declared.seat.Seat.{Seat};
+ghost use Rattle.model_data.specs.declared.batch.BatchRecord.{BatchRecord};
+ghost use Rattle.model_data.specs.declared.batch.BatchRow.{BatchRow};
+ghost use Rattle.table_defs.specs.Names.{Owner};
+ghost use Rattle.table_defs.specs.Table.{Table, after, no_rows};
+ghost use Rattle.table_defs.specs.Taken.{AreTaken};
+ghost use Rattle.cluster_defs.specs.Cluster.{Cluster, Job, lines, usage_of};
+ghost use Rattle.cluster_defs.specs.Deeds.{Deed, Faults};
+ghost use Rattle.cluster_defs.specs.Entries.{Entry};
+ghost use Rattle.cluster_defs.specs.Legal.{GivenBack, IsLegal, cluster_behind};
+ghost use Rattle.cluster_defs.specs.Listing.{IsInOrder, by_id, listed_jobs};
+ghost use Rattle.cluster_defs.specs.Opened.{opened};
+ghost use Rattle.cluster_defs.specs.Placement.{place, settled};
+ghost use Rattle.cluster_defs.specs.Places.{lines_behind};
+ghost use Rattle.cluster_defs.specs.Seated.{IsSeated, IsSettled, jobs_for};
+ghost use Rattle.cluster_defs.specs.Site.{Site};
+ghost use Rattle.cluster_defs.specs.Sound.{IsSound};
+ghost use Rattle.cluster_defs.specs.Step.{step};
+ghost use Rattle.cluster_defs.specs.Waiters.{is_seat};
+
+/// Each submitted batch waits or runs, once, and no other does: in the cluster that is opened from records that are all
+/// taken, behind each of its histories, and behind each step from where it holds.
+pub fn each_batch_waits_or_runs_once()
+    ensures opened { (k : Site) (rs : List BatchRecord) (end : ℕ) → AreTaken rs no_rows → IsSound (opened k (after rs no_rows) end) }
+    ensures behind { (k : Site) (rs : List BatchRecord) (end : ℕ) (history : List Entry) (returned : List GivenBack) → AreTaken rs no_rows → IsSound (cluster_behind k (after rs no_rows) end history returned) }
+    ensures step { (k : Site) (c : Cluster) (d : Deed) (f : Faults) → IsSound c → IsSound (step k c d f).next }
+{}
+
+/// Behind every history each seat's job waits exactly while it has no node, and none that waits may run. Placing leaves a job
+/// that has a node where it is, and what is listed of the nodes is what the places make of it.
+pub fn none_that_waits_may_run()
+    ensures behind { (k : Site) (t : Table) (end : ℕ) (history : List Entry) (returned : List GivenBack) → IsSettled (cluster_behind k t end history returned) }
+    ensures step { (k : Site) (c : Cluster) (d : Deed) (f : Faults) → IsSettled c → IsSettled (step k c d f).next }
+    ensures lines { (c : Cluster) → IsSeated c → lines (settled (place c) c) ≡ lines_behind (place c) (lines c) }
+    ensures stays { (c : Cluster) (s : Seat) (j : Job) → IsSeated c → jobs_for s c.jobs ≡ j ∷ [] → is_some j.node ≡ true → jobs_for s (settled (place c) c).jobs ≡ j ∷ [] }
+{}
+
+/// The jobs that are listed are those that are not lost, each once, by seat number, then by owner, then by role. A batch that
+/// has one row is there once.
+pub fn jobs_are_listed_in_order()
+    ensures once { (s : Seat) (jobs : List Job) → filter (λ job. is_seat s job.seat) (listed_jobs jobs) ≡ filter (λ job. is_seat s job.seat) (filter (λ job. not job.lost) jobs) }
+    ensures ordered { (jobs : List Job) → IsInOrder (listed_jobs jobs) }
+    ensures batches { (p : BatchRow → Bool) (rows : List BatchRow) → length (filter p rows) ≤ 1 → filter p (by_id rows) ≡ filter p rows }
+{}
+
+/// Over a legal history no owner has more counted entries than the limit on commands.
+pub fn counted_entries_stay_within_their_limit()
+    ensures { (k : Site) (t : Table) (end faults : ℕ) (history : List Entry) (returned : List GivenBack) → IsLegal k t end faults history returned
+        → (u : Owner) → (usage_of u (cluster_behind k t end history returned).usage).entries ≤ k.setup.limits.commands }
+{}
