@@ -1,5 +1,5 @@
 -- What an answer that may want memory says of words.
-use Rattle.std.proofs.Common.{◌≡◌, ◌⊎◌, inl, inr, Option, None, Result, Ok, Err, refl, sym, ◌∙◌}
+use Rattle.std.proofs.Common.{◌≡◌, ◌⊎◌, inl, inr, Option, None, Result, Ok, Err, refl, sym, ◌∙◌, subst}
 use Rattle.std.specs.Prelude.{IfErr, IfOk, ℕ}
 use Rattle.std.specs.Result.{result_unwrap_or}
 use Rattle.base_names.specs.declared.refusal.Refusal.{Refusal}
@@ -22,3 +22,8 @@ IfErr-Reads said whole (Err refusal) same (inr reads) = inr (sym same ∙ reads)
 pub unwrap_or-given : (size : Result (Option ℕ) Refusal) → result_unwrap_or size None ≡ block_len_of (given (λ k. Read k) size)
 unwrap_or-given (Ok k) = refl
 unwrap_or-given (Err refusal) = refl
+
+-- what holds of the command that words say holds of the one that was read
+pub lawful-Reads : (P : Command → Type 0) (said answer : Result Command Refusal) → Reads said answer → IfOk said P → IfOk answer P
+lawful-Reads P said (Ok command) reads holds = subst (λ whole. IfOk whole P) reads holds
+lawful-Reads P said (Err refusal) reads holds = tt

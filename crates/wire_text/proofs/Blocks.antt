@@ -1,5 +1,5 @@
 -- Which commands have a block behind their line: `READ` alone.
-use Rattle.std.proofs.Common.{◌≡◌, ℕ, Bool, true, false, List, [], ◌∷◌, Option, None, Result, Ok, Err, refl}
+use Rattle.std.proofs.Common.{◌≡◌, ℕ, Bool, true, false, List, [], ◌∷◌, None, Result, Ok, Err, refl}
 use Rattle.std.specs.Prelude.{if◌then◌else◌}
 use Rattle.frac128.specs.Checked.{◌>>=◌}
 use Rattle.base_names.specs.declared.refusal.Refusal.{Refusal}
@@ -9,7 +9,6 @@ use Rattle.wire_text.specs.Commands.{block_len_of, fit, made, terms_told}
 use Rattle.wire_text.specs.Forms.{Arguments, Makes, form_of, nothing, pairs, ◌then◌}
 use Rattle.wire_text.specs.Kinds.{Value, told}
 use Rattle.wire_text.specs.Reading.{read_behind}
-use Rattle.wire_text.specs.declared.command.Command.{Command}
 use Rattle.wire_text.specs.declared.verb.Verb.{Verb}
 use Rattle.wire_text.specs.declared.verb.Verb.TheVariants.{Batch, BStatus, Bye, Change, Get, Read, SetParam, Update, Write}
 use Rattle.wire_text.specs.declared.verb.ChangeVerb.TheVariants as change

@@ -1,6 +1,6 @@
 -- The table of forms, searched from the first to the last, says what the command that the words begin with says.
-use Rattle.std.proofs.Common.{◌≡◌, ◌⊎◌, inl, inr, ℕ, Bool, true, false, List, [], ◌∷◌, ◌++◌, Option, Some, None, Result, Ok, Err, refl, sym, ap, ◌∙◌, subst}
-use Rattle.std.specs.Prelude.{bytes_eq, codes, find, map, option_map, unwrap_or, ◌&&◌, if◌then◌else◌}
+use Rattle.std.proofs.Common.{◌≡◌, ◌⊎◌, inl, inr, ℕ, Bool, true, false, List, [], ◌∷◌, ◌++◌, Option, Some, None, Result, Err, refl, sym, ap, ◌∙◌, subst}
+use Rattle.std.specs.Prelude.{bytes_eq, codes, find, map, option_map, unwrap_or, if◌then◌else◌}
 use Rattle.std.specs.Option.{option_and_then}
 use Rattle.std.proofs.lemmas.Bool.{false≢true}
 use Rattle.std.proofs.lemmas.Slice.Eq.{bytes_eq-Decides}
@@ -171,24 +171,24 @@ find-called : (word : List ℕ) (vs : List Verb) (u : Verb) → AreCalled vs →
 find-called word [] u by_word h = absurd cc
 find-called word (v ∷ vs) u by_word h =
     elim (find-cons (λ v. bytes_eq word (form_of v).word) v vs u h) [
-      inl first ↦ subst (Calls word) first.1 ((bytes_eq-Decides word (form_of v).word).0 first.0, by_word.0)
-    | inr later ↦ find-called word vs u by_word.1 later
+      | inl first ↦ subst (Calls word) first.1 ((bytes_eq-Decides word (form_of v).word).0 first.0, by_word.0)
+      | inr later ↦ find-called word vs u by_word.1 later
     ]
 
 find-change : (word : List ℕ) (cs : List ChangeVerb) (c : ChangeVerb) → find (λ c. bytes_eq word (change_form c).word) cs ≡ Some c → word ≡ (change_form c).word
 find-change word [] c h = absurd cc
 find-change word (first ∷ cs) c h =
     elim (find-cons (λ c. bytes_eq word (change_form c).word) first cs c h) [
-      inl found ↦ (bytes_eq-Decides word (change_form first).word).0 found.0 ∙ ap (λ c. (change_form c).word) found.1
-    | inr later ↦ find-change word cs c later
+      | inl found ↦ (bytes_eq-Decides word (change_form first).word).0 found.0 ∙ ap (λ c. (change_form c).word) found.1
+      | inr later ↦ find-change word cs c later
     ]
 
 find-query : (word : List ℕ) (qs : List Query) (q : Query) → find (λ q. bytes_eq word (query_form q).word) qs ≡ Some q → word ≡ (query_form q).word
 find-query word [] q h = absurd cc
 find-query word (first ∷ qs) q h =
     elim (find-cons (λ q. bytes_eq word (query_form q).word) first qs q h) [
-      inl found ↦ (bytes_eq-Decides word (query_form first).word).0 found.0 ∙ ap (λ q. (query_form q).word) found.1
-    | inr later ↦ find-query word qs q later
+      | inl found ↦ (bytes_eq-Decides word (query_form first).word).0 found.0 ∙ ap (λ q. (query_form q).word) found.1
+      | inr later ↦ find-query word qs q later
     ]
 
 some_is : {A : Type 0} (x y : A) → Some x ≡ Some y → x ≡ y
@@ -229,6 +229,7 @@ verb_at-some (word ∷ words) rest v h = by_word (bytes_eq word (codes "GET")) r
     by_verb (Some u) is h =
         let parts = pair_is (u, words) (v, rest) h in
         ap (λ front. front ++ words) (verb_of-some word u is) ∙ (ap (λ ws. called u ++ ws) parts.1 ∙ ap (λ w. called w ++ rest) parts.0)
+
     by_word : (b : Bool) → bytes_eq word (codes "GET") ≡ b → (if b then query_at words else option_map {U = Verb × List (List ℕ)} (λ v. (v, words)) (verb_of word)) ≡ Some (v, rest) → word ∷ words ≡ called v ++ rest
     by_word true is h = ap (λ w. w ∷ words) ((bytes_eq-Decides word (codes "GET")).0 is) ∙ query_at-some words rest v h
     by_word false is h = by_verb (verb_of word) refl h

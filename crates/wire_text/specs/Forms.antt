@@ -1,7 +1,6 @@
 -- The forms of lines: what a command is called, which arguments stand behind that, and which command they give.
 use Rattle.std.specs.Prelude.{ℕ, List, [], ◌∷◌, ◌++◌, map, codes, Option, None}
 use Rattle.frac128.specs.Fraction.{Fraction}
-use Rattle.model_core.specs.declared.change.Change.{Change}
 use Rattle.model_core.specs.declared.change.Change.TheVariants.{AddVar, AddConstr, ChgCoeff, SetLb, SetUb, SetObj, SetRhs, SetSense, SetKind, SetTag, DelVar, DelConstr}
 use Rattle.model_core.specs.declared.change.NamedTerm.{NamedTerm}
 use Rattle.model_data.specs.declared.model.Var.{Var}

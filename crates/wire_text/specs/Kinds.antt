@@ -1,5 +1,5 @@
 -- What may stand in the place of an argument, and what a word there tells.
-use Rattle.std.specs.Prelude.{ℕ, ◌*◌, Bool, true, false, not, List, [], ◌∷◌, ◌==◌, nat_le, codes, bytes_eq, ℤ, unsigned_abs, Option, Some, None, option_map, Result, Ok, Err, if◌then◌else◌}
+use Rattle.std.specs.Prelude.{ℕ, ◌*◌, Bool, true, false, List, [], ◌∷◌, ◌==◌, nat_le, codes, bytes_eq, ℤ, unsigned_abs, Option, Some, None, option_map, Result, Ok, Err, if◌then◌else◌}
 use Rattle.std.specs.List.{list_any}
 use Rattle.base_names.specs.Decimal.{number_of}
 use Rattle.base_names.specs.Id.{id_of}

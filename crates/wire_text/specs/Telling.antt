@@ -1,5 +1,5 @@
 -- What the readers of single words answer.
-use Rattle.std.specs.Prelude.{◌≡◌, Bool, false, Result, Ok, Err}
+use Rattle.std.specs.Prelude.{◌≡◌, false, Result, Ok, Err}
 use Rattle.frac128.specs.Checked.{◌>>=◌}
 use Rattle.base_names.specs.declared.refusal.Refusal.{Refusal}
 use Rattle.base_names.specs.declared.refusal.Refusal.TheVariants.{LINE}

@@ -6,8 +6,8 @@ ghost use Rattle.std.specs.Prelude.{◌≡◌, ◌++◌, OnOk};
 ghost use Rattle.wire_text.specs.Answers.{block_text, bye_text, count_text, done_text, kind_text, kind_word, lower_text, number_text, refusal_line, reply_text, sense_text, sense_word, tag_text, updated_text, upper_text, value_text, whole_text};
 
 use base_names::{NoMemory, Refusal, append};
-use frac128::Frac;
 use frac_text::write_onto;
+use frac128::Frac;
 use hub_words::Reply;
 use model_data::{Sense, VarKind};
 

@@ -6,13 +6,15 @@
 //!
 //! Which line is which command is defined in `specs/Forms.antt`, a table of forms, `specs/Kinds.antt`, what a word tells in
 //! an argument's place, and `specs/Commands.antt`, which puts the two together. `specs/Reading.antt` says the same from the
-//! left, as the code goes. `specs/Answers.antt` has the texts of answers.
+//! left, as the code goes. `specs/Answers.antt` has the texts of answers. [`laws`] says that no
+//! line is two commands.
 #![tactic(auto)]
 
 mod answers;
 mod arguments;
 mod changes;
 mod command;
+pub mod laws;
 mod limits;
 mod queries;
 mod reading;

@@ -3,6 +3,7 @@
 ghost use Rattle.std.specs.Prelude.{◌≡◌, ◌⊎◌, IfErr, IfOk, Ok, Err};
 ghost use Rattle.base_names.specs.declared.refusal.Refusal.TheVariants.{MEMORY};
 ghost use Rattle.wire_text.specs.Commands.{block_len_of, command_of};
+ghost use Rattle.wire_text.specs.Lawful.{IsLawfulCommand};
 ghost use Rattle.wire_text.specs.Line.{words_of};
 ghost use Rattle.wire_text.specs.Reading.{Reads, given, read_behind};
 ghost use Rattle.wire_text.specs.declared.command.Command.TheVariants.{Read};
@@ -23,6 +24,8 @@ use std::alloc::Global;
 pub fn read_command(alloc: Global, line: &[u8]) -> Result<Command, Refusal>
     ensures read { IfOk result (λ command. command_of line.now ≡ Ok command) }
     ensures refused { IfErr result (λ refusal. (refusal ≡ MEMORY) ⊎ (command_of line.now ≡ Err refusal)) }
+    // Its change may be queued, and its block isn't too long.
+    ensures lawful { IfOk result IsLawfulCommand }
 {
     let Some((verb, rest)) = Verb::at(line) else {
         return Err(Refusal::LINE);

@@ -106,10 +106,12 @@ fn bound_in(word: &[u8]) -> Result<Told<Bound>, Refusal>
         })),
         Ok(value) => Ok(Ok(Bound::Finite(value))),
         Err(NumFault::NotNumber) => Err(Refusal::LINE),
-        Err(NumFault::TooWide {
-            negative,
-            huge: true,
-        }) => Ok(Ok(Bound::Infinite { below: negative })),
+        Err(
+            NumFault::TooWide {
+                negative,
+                huge: true,
+            },
+        ) => Ok(Ok(Bound::Infinite { below: negative })),
         Err(NumFault::TooWide { huge: false, .. }) => Ok(Err(Refusal::RANGE)),
     }
 }

@@ -1,6 +1,6 @@
 use Rattle.std.proofs.Common.{◌∷◌, ap, sym, ◌∙◌, arith}
 use Rattle.std.specs.Prelude.{not}
-use Rattle.wire_text.specs.Kinds.{name, number, told}
+use Rattle.wire_text.specs.Kinds.{number, told}
 use Rattle.wire_text.specs.Line.{words_of}
 use Rattle.wire_text.specs.Reading.{given, with_pair, with_pairs}
 use Rattle.wire_text.proofs.Pairs.{with_pairs-end, with_pairs-nil, with_pairs-pair}
@@ -19,7 +19,7 @@ loop-coef-preserved c =
     let coef = c.in-Some.coef.now in
     let var = c.in_ok-var.var.now in
     ap (λ terms. with_pairs terms behind)
-      (c.in_ok-terms.ensures ∙ (ap (λ x. with_pair so_far x (given (λ n. n.now) c.named.result)) (sym c.in_ok-coef.ensures.0) ∙ ap (λ n. with_pair so_far (told number coef) n) c.named.ensures))
+    (c.in_ok-terms.ensures ∙ (ap (λ x. with_pair so_far x (given (λ n. n.now) c.named.result)) (sym c.in_ok-coef.ensures.0) ∙ ap (λ n. with_pair so_far (told number coef) n) c.named.ensures))
     ∙ (with_pairs-pair so_far coef var behind (ap not c.in_ok-coef.ensures.1)
     ∙ (ap (λ words. with_pairs so_far words) (sym (c.in-Some.ensures.words ∙ ap (λ words. coef ∷ words) c.in_ok-var.ensures.words)) ∙ c.loop-coef.invariant))
 
