@@ -103,6 +103,7 @@ fn rows_and_terms(rt: HostRuntime) -> Result<(), Fail> {
         alloc,
         add_row(alloc, "e", &[("z", 5), ("y", 0), ("x", -6)])?,
     )?
+    .ok()
     .ok_or("e")?;
     assert!(rt; added.rows.as_slice()[2] == row(alloc, "e", &[(0, -6), (2, 5)])?);
     let table = [
