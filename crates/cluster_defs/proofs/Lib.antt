@@ -1,4 +1,5 @@
 pub mod Allowed
+pub mod BatchOrder
 pub mod Beliefs
 pub mod Counts
 pub mod Histories
@@ -7,6 +8,7 @@ pub mod Journals
 pub mod Listings
 pub mod Lists
 pub mod Lives
+pub mod Numbered
 pub mod OwnCommands
 pub mod OwnDeeds
 pub mod OwnEffects

@@ -43,7 +43,7 @@ flipped Less h = refl
 flipped Equal h = refl
 flipped Greater h = absurd (grind (arith, h))
 
-owners_apart : (a b : List ℕ) → is_lt (slice_cmp nat_cmp a b) ≡ true → is_lt (slice_cmp nat_cmp b a) ≡ false
+pub owners_apart : (a b : List ℕ) → is_lt (slice_cmp nat_cmp a b) ≡ true → is_lt (slice_cmp nat_cmp b a) ≡ false
 owners_apart a b h = ap is_lt (nat_list_cmp_total.antisymm b a) ∙ flipped (slice_cmp nat_cmp a b) h
 
 roles_apart : (a b : Role) → is_lower a b ≡ true → is_lower b a ≡ false
@@ -61,7 +61,7 @@ flip_by a b false false is js = refl
 flip_by a b true false is js = absurd (owners_differ (is_owner b a) (ap (is_owner b) (owner_is a b is) ∙ owner_refl b) js)
 flip_by a b false true is js = absurd (owners_differ (is_owner a b) (ap (is_owner a) (owner_is b a js) ∙ owner_refl a) is)
 
-flip_owner : (a b : List ℕ) → is_owner a b ≡ is_owner b a
+pub flip_owner : (a b : List ℕ) → is_owner a b ≡ is_owner b a
 flip_owner a b = flip_by a b (is_owner a b) (is_owner b a) refl refl
 
 numbers_flip : (a b : ℕ) → (a == b) ≡ (b == a)

@@ -18,7 +18,7 @@ use Rattle.cluster_defs.specs.Asks.{Ask}
 use Rattle.cluster_defs.specs.Cluster.{Cluster}
 use Rattle.cluster_defs.specs.Deeds.{Asked, Deed, Finished, FinishReply, Left, Took}
 use Rattle.cluster_defs.specs.Entries as answers
-use Rattle.cluster_defs.specs.Entries.{EntryReply}
+use Rattle.cluster_defs.specs.Entries.{Entry, EntryReply}
 use Rattle.cluster_defs.specs.Opened.{opened}
 use Rattle.cluster_defs.specs.Replies as tells
 use Rattle.cluster_defs.specs.Replies.{Reply}
@@ -88,6 +88,9 @@ finished id attempt ps r = record { deed = Finished id attempt found; placed = p
 
 abbrev pub left : BatchId → ℕ → List Placed → FinishReply → Line
 left id attempt ps r = record { deed = Left id attempt; placed = ps; reply = answers.Finish r }
+
+abbrev pub entry : Line → Entry
+entry l = record { deed = l.deed; placed = l.placed; reply = l.reply; before = 0; after = 0 }
 
 -- from an empty table
 abbrev pub IsTold : Site → List Line → Type 0

@@ -1,5 +1,5 @@
 -- Histories of batches, of their owners and of limits, with what is placed and answered.
-use Rattle.std.proofs.Common.{◌≡◌, refl, true, false, [], ◌∷◌, Some, None, pos}
+use Rattle.std.proofs.Common.{◌≡◌, refl, List, map, true, false, [], ◌∷◌, Some, None, pos}
 use Rattle.base_names.specs.declared.node.Waiter.TheVariants as waits
 use Rattle.base_names.specs.declared.refusal.OwnerLimit.TheVariants.{Commands, Bytes}
 use Rattle.base_names.specs.declared.refusal.Refusal.TheVariants.{BATCH, BATCHSTATE, DISK, JOURNALFULL, NODE, NOJOB, NONODE, OWNERFULL, RANGE, ROLE, STATE}
@@ -12,11 +12,14 @@ use Rattle.cluster_defs.specs.Asks as asks
 use Rattle.cluster_defs.specs.Deeds.{Asked, Back, Disk, Finished, Kept, Late}
 use Rattle.cluster_defs.specs.Entries as answers
 use Rattle.cluster_defs.specs.Looks.{cut}
-use Rattle.cluster_defs.specs.Opened.{opened}
+use Rattle.cluster_defs.specs.Opened.{mounted, opened}
+use Rattle.cluster_defs.specs.OwnHistory.{own_history, own_replies}
+use Rattle.cluster_defs.specs.Placement.{place}
+use Rattle.table_defs.specs.Owned.{table_of}
 use Rattle.cluster_defs.specs.Replies as tells
 use Rattle.cluster_defs.specs.Step.{step}
 use Rattle.cluster_defs.specs.Waiters.{is_node, is_seat}
-use Rattle.cluster_defs.proofs.Scenes.{IsTold, ada, admin, ask, batch, behind, bob, body, finished, found, job, left, limited, node, refused, seat, site, took, work}
+use Rattle.cluster_defs.proofs.Scenes.{Line, entry, IsTold, ada, admin, ask, batch, behind, bob, body, finished, found, job, left, limited, node, refused, seat, site, took, work}
 
 -- A worker's result comes too late for an attempt that its owner has aborted, and is kept for the next one.
 abort_and_retry : IsTold (site 1 1 0) (
@@ -52,8 +55,8 @@ unfolding is_owner is_id is_seat is_node
 given_back = refl
 
 -- Two owners who both get number 1: neither sees the other's batch, and the place that one frees at once is the other's.
-two_owners : IsTold (site 1 1 0) (
-    ask (seat 1 ada) (asks.Create body) (work (batch ada 1) 1 1 ∷ []) (tells.Made (batch ada 1))
+abbrev both : List Line
+both = ask (seat 1 ada) (asks.Create body) (work (batch ada 1) 1 1 ∷ []) (tells.Made (batch ada 1))
     ∷ ask (seat 1 bob) (asks.Create body) [] (tells.Made (batch bob 1))
     ∷ refused (seat 1 bob) (asks.Abort (batch ada 1)) BATCH
     ∷ refused (seat 1 bob) (asks.Discard (batch bob 1)) (BATCHSTATE submitted)
@@ -65,9 +68,27 @@ two_owners : IsTold (site 1 1 0) (
     ∷ finished (batch bob 1) 1 (work (batch ada 1) 2 1 ∷ []) Kept
     ∷ ask (seat 1 bob) asks.Listing [] (tells.Rows (record { id = batch bob 1; status = completed } ∷ []))
     ∷ ask (seat 1 ada) asks.Listing [] (tells.Rows (record { id = batch ada 1; status = submitted } ∷ []))
-    ∷ [])
+    ∷ []
+
+two_owners : IsTold (site 1 1 0) both
 unfolding is_owner is_id is_seat is_node
 two_owners = refl
+
+-- What each is told by what is read for it alone.
+ada_alone : own_replies (site 1 1 0) (table_of ada no_rows) (own_history ada (site 1 1 0) no_rows 8 (map entry both) [])
+    ≡ tells.Made (batch ada 1) ∷ tells.Done ∷ tells.Done ∷ tells.Rows (record { id = batch ada 1; status = submitted } ∷ []) ∷ []
+unfolding is_owner is_id is_seat is_node
+ada_alone = refl
+
+bob_alone : own_replies (site 1 1 0) (table_of bob no_rows) (own_history bob (site 1 1 0) no_rows 8 (map entry both) [])
+    ≡ tells.Made (batch bob 1) ∷ tells.Refused BATCH ∷ tells.Refused (BATCHSTATE submitted) ∷ tells.Rows (record { id = batch bob 1; status = completed } ∷ []) ∷ []
+unfolding is_owner is_id is_seat is_node
+bob_alone = refl
+
+-- When the cluster is opened again behind ada's retry, the first place is ada's.
+opened_again : place (mounted (site 1 1 0) (after (is.Create (batch ada 1) 1 body ∷ is.Create (batch bob 1) 1 body ∷ is.Abort (batch ada 1) 1 ∷ is.Retry (batch ada 1) 2 ∷ []) no_rows) 428) ≡ work (batch ada 1) 2 1 ∷ []
+unfolding is_owner is_id is_seat is_node
+opened_again = refl
 
 -- ---- limits
 

@@ -93,6 +93,9 @@ id_of job = record { seat = job.seat; number = job.number }
 
 -- ---- nodes
 
+abbrev pub numbers_of : List Node → List ℕ
+numbers_of nodes = map (λ n. n.node.0) nodes
+
 abbrev pub is_at : NodeNo → Option NodeNo → Bool
 is_at node None = false
 is_at node (Some place) = is_node node place

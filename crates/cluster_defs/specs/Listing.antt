@@ -81,3 +81,11 @@ IsNotBehind job (next ∷ jobs) = is_earlier next.seat job.seat ≡ false
 abbrev pub IsInOrder : List Job → Type 0
 IsInOrder [] = ⊤
 IsInOrder (job ∷ jobs) = IsNotBehind job jobs × IsInOrder jobs
+
+abbrev pub IsFollowed : BatchRow → List BatchRow → Type 0
+IsFollowed row [] = ⊤
+IsFollowed row (next ∷ rows) = is_before next.id row.id ≡ false
+
+abbrev pub AreInOrder : List BatchRow → Type 0
+AreInOrder [] = ⊤
+AreInOrder (row ∷ rows) = IsFollowed row rows × AreInOrder rows

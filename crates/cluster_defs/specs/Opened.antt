@@ -1,5 +1,5 @@
 -- A cluster as it is opened from a table.
-use Rattle.std.specs.Prelude.{ℕ, zero, suc, List, [], ◌∷◌, ◌++◌, filter}
+use Rattle.std.specs.Prelude.{ℕ, zero, suc, List, [], ◌∷◌, filter}
 use Rattle.base_names.specs.declared.node.NodeState.TheVariants.{Alive}
 use Rattle.base_names.specs.declared.node.Waiter.TheVariants as waits
 use Rattle.model_data.specs.declared.batch.BatchRow.{BatchRow}
@@ -9,9 +9,10 @@ use Rattle.cluster_defs.specs.Listing.{by_id, is_going_on}
 use Rattle.cluster_defs.specs.Placement.{enqueue, place, settled}
 use Rattle.cluster_defs.specs.Site.{Site}
 
-abbrev pub first_nodes : Site → ℕ → List Node
-first_nodes k zero = []
-first_nodes k (suc n) = first_nodes k n ++ record { node = record { 0 = suc n }; state = Alive; limit = k.setup.limit; hard = k.setup.hard } ∷ []
+-- so many nodes, numbered from this one on
+abbrev pub nodes_from : Site → ℕ → ℕ → List Node
+nodes_from k first zero = []
+nodes_from k first (suc n) = record { node = record { 0 = first }; state = Alive; limit = k.setup.limit; hard = k.setup.hard } ∷ nodes_from k (suc first) n
 
 abbrev pub all_waiting : List BatchRow → List Waiting → List Waiting
 all_waiting [] ws = ws
@@ -27,7 +28,7 @@ mounted k t end = record {
   given = [];
   usage = [];
   waiting = all_waiting (by_id (filter is_going_on t.rows)) [];
-  nodes = first_nodes k k.setup.nodes;
+  nodes = nodes_from k 1 k.setup.nodes;
   journal = end;
 }
 

@@ -38,7 +38,7 @@ pub use placing_laws::{each_place_is_the_best, placing_repeats_the_rule};
 pub use reply::Reply;
 pub use standing_laws::{
     counted_entries_stay_within_their_limit, each_batch_waits_or_runs_once,
-    jobs_are_listed_in_order, none_that_waits_may_run,
+    jobs_are_listed_in_order, nodes_keep_their_numbers, none_that_waits_may_run,
 };
 pub use step_laws::batches_are_kept_without_nodes;
 

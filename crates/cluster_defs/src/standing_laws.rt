@@ -4,13 +4,14 @@ ghost use Rattle.base_names.specs.declared.seat.Seat.{Seat};
 ghost use Rattle.model_data.specs.declared.batch.BatchRecord.{BatchRecord};
 ghost use Rattle.model_data.specs.declared.batch.BatchRow.{BatchRow};
 ghost use Rattle.table_defs.specs.Names.{Owner};
+ghost use Rattle.table_defs.specs.Outcomes.{IsRisingFrom};
 ghost use Rattle.table_defs.specs.Table.{Table, after, no_rows};
 ghost use Rattle.table_defs.specs.Taken.{AreTaken};
-ghost use Rattle.cluster_defs.specs.Cluster.{Cluster, Job, lines, usage_of};
+ghost use Rattle.cluster_defs.specs.Cluster.{Cluster, Job, lines, numbers_of, usage_of};
 ghost use Rattle.cluster_defs.specs.Deeds.{Deed, Faults};
 ghost use Rattle.cluster_defs.specs.Entries.{Entry};
 ghost use Rattle.cluster_defs.specs.Legal.{GivenBack, IsLegal, cluster_behind};
-ghost use Rattle.cluster_defs.specs.Listing.{IsInOrder, by_id, listed_jobs};
+ghost use Rattle.cluster_defs.specs.Listing.{AreInOrder, IsInOrder, by_id, listed_jobs};
 ghost use Rattle.cluster_defs.specs.Opened.{opened};
 ghost use Rattle.cluster_defs.specs.Placement.{place, settled};
 ghost use Rattle.cluster_defs.specs.Places.{lines_behind};
@@ -38,11 +39,20 @@ pub fn none_that_waits_may_run()
 {}
 
 /// The jobs that are listed are those that are not lost, each once, by seat number, then by owner, then by role. A batch that
-/// has one row is there once.
+/// has one row is there once, and batches are by owner, then by number.
 pub fn jobs_are_listed_in_order()
     ensures once { (s : Seat) (jobs : List Job) → filter (λ job. is_seat s job.seat) (listed_jobs jobs) ≡ filter (λ job. is_seat s job.seat) (filter (λ job. not job.lost) jobs) }
     ensures ordered { (jobs : List Job) → IsInOrder (listed_jobs jobs) }
     ensures batches { (p : BatchRow → Bool) (rows : List BatchRow) → length (filter p rows) ≤ 1 → filter p (by_id rows) ≡ filter p rows }
+    ensures batches_ordered { (rows : List BatchRow) → AreInOrder (by_id rows) }
+{}
+
+/// The nodes of an opened cluster are in the order of their numbers, and behind every history they are those. So the first of
+/// several nodes is the one with the least number.
+pub fn nodes_keep_their_numbers()
+    ensures rising { (k : Site) (t : Table) (end : ℕ) → IsRisingFrom 0 (numbers_of (opened k t end).nodes) }
+    ensures behind { (k : Site) (t : Table) (end : ℕ) (history : List Entry) (returned : List GivenBack) → numbers_of (cluster_behind k t end history returned).nodes ≡ numbers_of (opened k t end).nodes }
+    ensures step { (k : Site) (c : Cluster) (d : Deed) (f : Faults) → numbers_of (step k c d f).next.nodes ≡ numbers_of c.nodes }
 {}
 
 /// Over a legal history no owner has more counted entries than the limit on commands.

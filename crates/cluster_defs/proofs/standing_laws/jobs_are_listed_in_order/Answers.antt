@@ -1,3 +1,4 @@
+use Rattle.cluster_defs.proofs.BatchOrder.{by_id_order}
 use Rattle.cluster_defs.proofs.Listings.{listed_once, listed_order}
 use Rattle.cluster_defs.proofs.SoundOpenings.{by_id_same}
 use Rattle.cluster_defs.proofs.standing_laws.jobs_are_listed_in_order.Goals as goal
@@ -10,3 +11,6 @@ returns-clause-ordered c = listed_order
 
 pub returns-clause-batches : goal.returns-clause-batches
 returns-clause-batches c = by_id_same
+
+pub returns-clause-batches_ordered : goal.returns-clause-batches_ordered
+returns-clause-batches_ordered c = by_id_order
