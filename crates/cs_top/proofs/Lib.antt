@@ -1,3 +1,2 @@
-pub mod FrameSteps
-pub mod LineCuts
-pub mod Standing
+pub mod OwnDesks
+pub mod Runs

@@ -1,10 +1,3 @@
 pub mod CommandLine
-pub mod Framing
-pub mod Line
-pub mod Order
+pub mod OwnDesk
 pub mod Run
-pub mod Session
-pub mod Step
-pub mod Tagging
-pub mod Talk
-pub mod Transcript

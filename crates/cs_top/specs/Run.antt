@@ -1,27 +1,22 @@
 -- What the top call leaves behind, by its status.
-use Rattle.std.specs.Prelude.{ℕ, Bool, true, false, ◌≡◌, ◌⊎◌, ◌==◌, List, [], codes, Option, Some, if◌then◌else◌}
-use Rattle.base_names.specs.Outside.{Rose, Reads, Writes}
+use Rattle.std.specs.Prelude.{ℕ, true, false, ◌≡◌, ◌⊎◌, ◌==◌, List, [], ◌++◌, codes, Option, if◌then◌else◌}
+use Rattle.base_names.specs.Outside.{Rose, Reads, Writes, IsAtEnd}
 use Rattle.base_names.specs.Prefix.{IsPrefix}
-use Rattle.cs_top.specs.Talk.{text_so_far}
-use Rattle.cs_top.specs.Transcript.{session_text, is_session_too_long}
+use Rattle.base_names.specs.declared.seat.Role.TheVariants.{Standard}
+use Rattle.base_names.specs.declared.seat.Seat.{Seat}
+use Rattle.session.specs.Beginning.{at_first}
+use Rattle.session.specs.Dialogue.{Told, IsFront}
+use Rattle.session.specs.Hearing.{Heard, entries_by, fulls_by}
+use Rattle.session.specs.Session.{Call}
+use Rattle.session.specs.Transcript.{session_writing}
+use Rattle.session.specs.Writing.{Writing, MayFollow, IsNeeded}
+use Rattle.session.specs.declared.talking.End.{End}
+use Rattle.session.specs.declared.talking.End.TheVariants.{Bye, Closed, ReadFault as ReadFault', WriteFault as WriteFault', TooLong as TooLong', NoMemory as NoMemory'}
+use Rattle.cs_top.specs.OwnDesk.{AreOwn}
 use Rattle.cs_top.specs.declared.status.Status.{Status}
 use Rattle.cs_top.specs.declared.status.Status.TheVariants.{Done, WordsRefused, ReadFault, WriteFault, NoMemory, TooLong}
-use Rattle.cs_top.specs.declared.talking.End.{End}
-use Rattle.cs_top.specs.declared.talking.End.TheVariants.{Bye, Closed, ReadFault as ReadFault', WriteFault as WriteFault', TooLong as TooLong', NoMemory as NoMemory'}
 use Rattle.cs_top.specs.declared.command_line.Words.{Words}
 use Rattle.cs_top.specs.declared.command_line.Words.TheVariants.{Session}
-
--- what a program writes for its input
-pub record Writing : Type 0 where
-  -- all of it
-  pub whole : (input : List ℕ) → List ℕ
-  -- what it has written when so much of the input was read
-  pub so_far : (taken : List ℕ) → List ℕ
-  -- whether a line, or the input as a whole, is too long for it
-  pub is_too_long : (input : List ℕ) → Bool
-
-abbrev pub writing_of : Words → Writing
-writing_of (Session owner) = record { whole = session_text owner; so_far = text_so_far owner; is_too_long = is_session_too_long owner }
 
 abbrev pub code_of : Status → ℕ
 code_of Done = 0
@@ -43,12 +38,36 @@ status_of NoMemory' = NoMemory
 abbrev pub IsStatus : ℕ → Type 0
 IsStatus status = (status ≡ 0) ⊎ ((status ≡ 2) ⊎ ((status ≡ 3) ⊎ ((status ≡ 4) ⊎ ((status ≡ 6) ⊎ (status ≡ 7)))))
 
--- what stands on the sink for an input, where the words are taken
-pub record RunSays (status : ℕ) (writing : Writing) (input : List ℕ) (left' contents contents' : Option (List ℕ)) : Type 0 where
-  pub done : status ≡ 0 → Writes contents contents' (writing.whole input) × (writing.is_too_long input ≡ false)
-  pub too_long : status ≡ 7 → Writes contents contents' (writing.whole input) × (writing.is_too_long input ≡ true)
-  pub read_fault : status ≡ 3 → (taken : List ℕ) × Reads (Some input) left' taken × Writes contents contents' (writing.so_far taken)
-  pub in_part : (status ≡ 4) ⊎ (status ≡ 6) → (front : List ℕ) × IsPrefix front (writing.whole input) × Writes contents contents' front
+-- What was taken from the source and told, its text on the sink, where the words are taken. It speaks of the bytes that
+-- were taken whether or not the source tells what it has left.
+pub record RunSays {Deed : Type 0} (status : ℕ) (writing : Writing Deed) (told : Told Deed) (left left' contents contents' : Option (List ℕ)) : Type 0 where
+  pub taken : List ℕ
+  pub read : Reads left left' taken
+  pub wrote : Writes contents contents' told.text
+  pub needed : IsNeeded writing taken told
+  -- all of it, where the input ends or ends the program
+  pub done : status ≡ 0 → (rest : List ℕ) → MayFollow left' rest → (told ≡ writing.whole (taken ++ rest)) × (writing.is_too_long (taken ++ rest) ≡ false)
+  pub ended : status ≡ 0 → (writing.is_over taken ≡ true) ⊎ IsAtEnd left'
+  -- all that comes before what is too long
+  pub too_long : status ≡ 7 → (rest : List ℕ) → MayFollow left' rest → (told ≡ writing.whole (taken ++ rest)) × (writing.is_too_long (taken ++ rest) ≡ true)
+  pub read_fault : status ≡ 3 → told ≡ writing.so_far taken
+  pub in_part : (status ≡ 4) ⊎ (status ≡ 6) → (rest : List ℕ) → MayFollow left' rest → IsFront told (writing.whole (taken ++ rest))
+
+-- an owner's only seat
+abbrev pub seat_of : (owner : List ℕ) → Seat
+seat_of owner = record { number = 1; owner = owner; role = Standard }
+
+-- A session's lines heard what its own desk replies, and that there was no memory; the desk never told of a limit on
+-- commands.
+pub record SessionSays (status : ℕ) (owner : List ℕ) (left left' contents contents' : Option (List ℕ)) : Type 0 where
+  pub heard : List Heard
+  pub told : Told Call
+  pub says : RunSays status (session_writing (seat_of owner) at_first heard) told left left' contents contents'
+  pub own : AreOwn 0 (entries_by (seat_of owner) told.deeds)
+  pub never_full : fulls_by 0 told.deeds ≡ 0
+
+abbrev pub RunsAs : Words → (status : ℕ) (left left' contents contents' : Option (List ℕ)) → Type 0
+RunsAs (Session owner) status left left' contents contents' = SessionSays status owner left left' contents contents'
 
 -- the line that tells why
 abbrev pub error_line : ℕ → List ℕ

@@ -3,7 +3,7 @@
 ghost use Rattle.std.specs.Prelude.{◌≡◌};
 ghost use Rattle.cs_top.specs.Run.{code_of, error_line, status_of};
 
-use crate::talking::End;
+use session::End;
 
 /// How a run ended.
 #[derive(Clone, Copy, Debug, PartialEq, Eq)]

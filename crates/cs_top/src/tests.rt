@@ -81,12 +81,12 @@ fn answers_a_session(rt: HostRuntime) -> Result<(), Fail> {
         // A model takes the place of the one before, and has no tag.
         (
             b"READ 0039\nMinimize\n y\nSubject To\n y: y >= 07\nEnd\nBATCH\nSETVTAG x x\nSETVTAG y x\nBATCH\n",
-            b"OK\nOK\nOK\nERR 2 LINE\nERR 2 LINE\nOK\nBATCH ada.1\n",
+            b"OK\nOK\nOK\nERR 9 NOTAG\nERR 5 NAME\nOK\nBATCH ada.1\n",
         ),
         // A tag is one variable's, which may get another one.
         (
             b"READ 17\nMin x + y\nst\nEnd\nSETVTAG x t\nSETVTAG y t\nSETVTAG x u\nSETVTAG y t\nSETVTAG x u\nSETVTAG z v\nSETVTAG x\n",
-            b"OK\nOK\nOK\nOK\nERR 2 LINE\nOK\nOK\nOK\nERR 2 LINE\nERR 2 LINE\n",
+            b"OK\nOK\nOK\nOK\nERR 6 DUPLICATE\nOK\nOK\nOK\nERR 5 NAME\nERR 2 LINE\n",
         ),
         // Words, blanks and line ends; a batch's ID has one spelling.
         (
@@ -183,6 +183,39 @@ fn reads_and_writes_models(rt: HostRuntime) -> Result<(), Fail> {
             wanted.extend_from_slice(part)?;
         }
         assert_answers(&rt, &session(rt.alloc(), input)?, wanted.as_slice());
+    }
+    Ok(())
+}
+
+#[test]
+fn queues_changes(rt: HostRuntime) -> Result<(), Fail> {
+    let rows: &[(&[u8], &[u8])] = &[
+        // What is queued is seen once it is applied.
+        (
+            b"ADDVAR z 0 inf 1 C\nGET LB z\nUPDATE\nGET LB z\nDELVAR z\nADDVAR z 1 inf 1 C\nGET LB z\nUPDATE\nGET LB z\n",
+            b"OK\nERR 5 NAME\nUPDATED 1\nVALUE 0\nOK\nOK\nVALUE 0\nUPDATED 2\nVALUE 1\n",
+        ),
+        (
+            b"FOO\nSETPARAM Foo 1\nSETPARAM NodeLimit -1\nADDVAR a 0 inf 1 C\nADDVAR a 0 1 0 C\nBATCH\nREAD 1048577\nBSTATUS bob.1\n",
+            b"ERR 2 LINE\nERR 8 PARAM\nERR 7 RANGE\nOK\nERR 6 DUPLICATE\nERR 9 NOTAG\nERR 10 SIZE\nERR 13 BATCH\n",
+        ),
+        // A batch applies what is queued, also where it is refused behind that.
+        (
+            b"ADDVAR a 0 inf 1 C\nBATCH\nGET NUMVARS\nSETVTAG a t\nGET VTAG a\nBATCH\nGET VTAG a\nBSTATUS ada.1\nUPDATE\n",
+            b"OK\nERR 9 NOTAG\nVALUE 1\nOK\nERR 9 NOTAG\nBATCH ada.1\nVALUE t\nBSTATUS ada.1 2\nUPDATED 0\n",
+        ),
+        // A refused text keeps what is queued, and one that is read drops it.
+        (
+            b"ADDVAR a 0 inf 1 C\nREAD 3\nabcUPDATE\nADDVAR b 0 inf 1 C\nREAD 17\nMin x + y\nst\nEnd\nUPDATE\nGET NUMVARS\n",
+            b"OK\nERR 4 MODEL 1 1 NOSECTION\nUPDATED 1\nOK\nOK\nUPDATED 0\nVALUE 2\n",
+        ),
+        (
+            b"ADDVAR x -inf 1e20 1/2 I\nADDCONSTR c >= 3 2 x\nUPDATE\nGET LB x\nGET UB x\nGET OBJ x\nGET TYPE x\nGET RHS c\nGET SENSE c\nGET COEFF c x\nGET NUMCONSTRS\nGET PARAM NodeLimit\nSETPARAM NodeLimit 5\nGET PARAM NodeLimit\n",
+            b"OK\nOK\nUPDATED 2\nVALUE -inf\nVALUE inf\nVALUE 1/2\nVALUE I\nVALUE 3\nVALUE >=\nVALUE 2\nVALUE 1\nVALUE 10000\nOK\nVALUE 5\n",
+        ),
+    ];
+    for (input, output) in rows {
+        assert_answers(&rt, &session(rt.alloc(), &[input])?, output);
     }
     Ok(())
 }

@@ -1,15 +1,17 @@
 //! The top call.
 
-ghost use Rattle.std.specs.Prelude.{◌≡◌, ◌≢◌, ◌↔◌, ◌≤◌, Err, IfOk, IfSome, map, string_bytes};
+ghost use Rattle.std.specs.Prelude.{◌≡◌, ◌≢◌, ◌↔◌, ◌≤◌, Err, IfOk, map, string_bytes};
 ghost use Rattle.base_names.specs.Outside.{Rose};
 ghost use Rattle.cs_top.specs.CommandLine.{words_asked};
-ghost use Rattle.cs_top.specs.Run.{IsStatus, Reports, RunSays, code_of, writing_of};
+ghost use Rattle.cs_top.specs.Run.{IsStatus, Reports, RunsAs, SessionSays, code_of};
 
 use crate::command_line::{Words, WordsFault, read_words};
+use crate::own_desk::OwnDesk;
 use crate::status::Status;
-use crate::talking::talk;
-use base_io::{Sink, Source, put};
+use base_io::{LineReader, Sink, Source, put};
+use base_names::{Owner, Role, Seat};
 use disk_model::Disk;
+use session::talk;
 use std::alloc::Global;
 
 /// Does what the words ask for, and gives the status: 0 where the input was read to its end or to
@@ -32,11 +34,11 @@ pub fn run<S: Source, K: Sink, E: Sink, D: Disk>(
     ensures same_disk { disk.new ≡ disk.old }
     ensures statuses { IsStatus result }
 
-    // What stands on the sink, by the status.
+    // What was taken and written, by the status.
     ensures refused { (result ≡ 2) ↔ (words_asked (map string_bytes words.now.items) ≡ Err WordsFault.Refused) }
     ensures untouched { result ≡ 2 → (S.left source.new ≡ S.left source.old) × (K.contents sink.new ≡ K.contents sink.old) }
-    ensures says { IfOk (words_asked (map string_bytes words.now.items)) (λ asked. IfSome (S.left source.old)
-        (λ input. RunSays result (writing_of asked) input (S.left source.new) (K.contents sink.old) (K.contents sink.new))) }
+    ensures says { IfOk (words_asked (map string_bytes words.now.items)) (λ asked.
+        RunsAs asked result (S.left source.old) (S.left source.new) (K.contents sink.old) (K.contents sink.new)) }
 
     // A fault is told only where one came.
     ensures read_fault { result ≡ 3 → Rose (S.faults source.old) (S.faults source.new) }
@@ -56,12 +58,38 @@ pub fn run<S: Source, K: Sink, E: Sink, D: Disk>(
 fn answer<S: Source, K: Sink>(alloc: Global, asked: Words, source: &mut S, sink: &mut K) -> Status
     ensures same_source { S.name source.new ≡ S.name source.old }
     ensures same_sink { K.name sink.new ≡ K.name sink.old }
-    ensures says { IfSome (S.left source.old)
-        (λ input. RunSays (code_of result) (writing_of asked) input (S.left source.new) (K.contents sink.old) (K.contents sink.new)) }
+    ensures says { RunsAs asked (code_of result) (S.left source.old) (S.left source.new) (K.contents sink.old) (K.contents sink.new) }
     ensures read_fault { result ≡ Status.ReadFault → Rose (S.faults source.old) (S.faults source.new) }
     ensures write_fault { result ≡ Status.WriteFault → Rose (K.faults sink.old) (K.faults sink.new) }
     ensures known { result ≢ Status.WordsRefused }
 {
-    let Words::Session(owner) = asked;
-    Status::from(talk(alloc, owner, source, sink))
+    match asked {
+        Words::Session(owner) => hold_session(alloc, owner, source, sink),
+    }
+}
+
+/// Holds a session of the owner.
+fn hold_session<S: Source, K: Sink>(
+    alloc: Global,
+    owner: Owner,
+    source: &mut S,
+    sink: &mut K,
+) -> Status
+    ensures same_source { S.name source.new ≡ S.name source.old }
+    ensures same_sink { K.name sink.new ≡ K.name sink.old }
+    ensures says { SessionSays (code_of result) owner (S.left source.old) (S.left source.new) (K.contents sink.old) (K.contents sink.new) }
+    ensures read_fault { result ≡ Status.ReadFault → Rose (S.faults source.old) (S.faults source.new) }
+    ensures write_fault { result ≡ Status.WriteFault → Rose (K.faults sink.old) (K.faults sink.new) }
+    ensures known { result ≢ Status.WordsRefused }
+{
+    let seat = Seat {
+        number: 1,
+        owner,
+        role: Role::Standard,
+    };
+    let mut desk = OwnDesk::new();
+    let mut reader = LineReader::new(alloc);
+    let end = talk(alloc, seat, &mut desk, &mut reader, source, sink);
+    let _ = desk.made();
+    Status::from(end)
 }

@@ -1,0 +1,10 @@
+pub mod Beginning
+pub mod Conversing
+pub mod Dialogue
+pub mod Framing
+pub mod Hearing
+pub mod Session
+pub mod Step
+pub mod Talk
+pub mod Transcript
+pub mod Writing
