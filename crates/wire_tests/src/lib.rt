@@ -1,9 +1,0 @@
-//! Tests of `wire_text`. They stand here, since a crate with tests of its own is proved twice.
-#![tactic(auto)]
-
-#[cfg(test)]
-mod answers;
-#[cfg(test)]
-mod commands;
-#[cfg(test)]
-mod refusals;
