@@ -48,7 +48,7 @@ pub struct Weights {
 /// A node of the tree of cases, from the root on, each followed by the nodes below it.
 #[derive(Debug, Drop, PartialEq, Eq)]
 pub enum CertNode {
-    /// Two cases: the variable of this place is at most the number, or at least one more.
+    /// Two cases of the variable of this number, counted from 1: it is at most the bound, or at least one more.
     Split(u32, i128),
     /// No point of the case is better than the one that is kept.
     Bound(Weights),

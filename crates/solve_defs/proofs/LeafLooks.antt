@@ -11,10 +11,9 @@ use Rattle.model_data.specs.Lawful.{IsLawful}
 use Rattle.model_data.specs.declared.model.Direction.{Direction}
 use Rattle.model_data.specs.declared.model.Direction.TheVariants.{Minimize, Maximize}
 use Rattle.model_data.specs.declared.model.Model.{Model}
-use Rattle.model_data.specs.declared.solution.Outcome.{Outcome}
 use Rattle.model_data.specs.declared.solution.Weights.{Weights}
 use Rattle.solve_defs.specs.Bounds.{effective_bounds}
-use Rattle.solve_defs.specs.Certificates.{Claim, bound_claim, farkas_claim, leaf_looks, side_steps, sign_looks, sums_from, value_of}
+use Rattle.solve_defs.specs.Certificates.{Claim, bound_claim, farkas_claim, leaf_looks, side_steps, sign_looks, sums_from}
 use Rattle.solve_defs.specs.LeafWeights.{Combines, IsNoBetterThanSide}
 use Rattle.solve_defs.specs.Looks.{Holds, Look, Step, after_look, checked_step, formed, minus, minus_times, moved, plus, plus_times, total_of, verdict_of}
 use Rattle.solve_defs.specs.Points.{HasNoPoint, IsBetter, IsFeasible, Ratio, objective_value, ratio, relaxation}
@@ -59,15 +58,15 @@ no_better Minimize value side limit some bound h better =
     (IsAtMost_trans (low (ratio limit)) limit (negation side) (low_below limit) (subst (λ x. IsAtMost x (negation side)) (negation-negation limit) (IsAtMost-negation side (negation limit) h)))
     (IsAtMost_trans (negation side) (low (ratio (negation side))) (low value) (below_low (negation side)) (at_most-low (ratio (negation side)) value (omega arith) some bound)))
 
--- No point of a leaf that holds is better than the kept one.
-pub bound_holds : (m : Model) (cuts : List Cut) (leaf : ℕ) (weights : Weights) (o : Outcome) (X : List ℤ) (d : ℕ) → IsLawful m → All Holds (leaf_looks m cuts leaf (bound_claim m o) weights)
-    → IsFeasible (relaxation m cuts) X d → IsBetter m.direction (objective_value m X d) (ratio (value_of o.point)) → ⊥
-bound_holds m cuts leaf weights o X d lawful hold feasible =
-    let parts = leaf_parts m cuts leaf (bound_claim m o) weights hold in
+-- No point of a leaf that holds is better than the value.
+pub bound_holds : (m : Model) (cuts : List Cut) (leaf : ℕ) (weights : Weights) (value : Fraction) (X : List ℤ) (d : ℕ) → IsLawful m → All Holds (leaf_looks m cuts leaf (bound_claim m value) weights)
+    → IsFeasible (relaxation m cuts) X d → IsBetter m.direction (objective_value m X d) (ratio value) → ⊥
+bound_holds m cuts leaf weights value X d lawful hold feasible =
+    let parts = leaf_parts m cuts leaf (bound_claim m value) weights hold in
     let side = total_of (turned m.direction m.constant) (side_steps m (effective_bounds m cuts) weights) in
-    no_better m.direction (objective_value m X d) side (value_of o.point) (objective_den m X d feasible.above_zero)
+    no_better m.direction (objective_value m X d) side value (objective_den m X d feasible.above_zero)
     (side_bounds m cuts leaf weights X d lawful parts.combines feasible)
-    (at_most_holds side (turned m.direction (value_of o.point)) parts.side)
+    (at_most_holds side (turned m.direction value) parts.side)
 
 pub farkas_holds : (m : Model) (cuts : List Cut) (leaf : ℕ) (weights : Weights) → IsLawful m → All Holds (leaf_looks m cuts leaf (farkas_claim m) weights) → HasNoPoint (relaxation m cuts)
 farkas_holds m cuts leaf weights lawful hold =

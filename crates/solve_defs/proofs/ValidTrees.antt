@@ -85,26 +85,26 @@ tree_status m o nodes shape =
 
 -- ---- the leaves
 
-with_bounds : (m : Model) (o : Outcome) (Goal : List ℤ → ℕ → Type 0) (nodes : List CertNode) → BoundGives m o Goal → IsTrue (list_all (is_node_for m) nodes) → AllByRecursion (Node m o Goal) nodes
-with_bounds m o Goal [] gives fit = tt
-with_bounds m o Goal (node ∷ nodes) gives fit =
+with_bounds : (m : Model) (value : Fraction) (Goal : List ℤ → ℕ → Type 0) (nodes : List CertNode) → BoundGives m value Goal → IsTrue (list_all (is_node_for m) nodes) → AllByRecursion (Node m value Goal) nodes
+with_bounds m value Goal [] gives fit = tt
+with_bounds m value Goal (node ∷ nodes) gives fit =
     let parts = and_parts (is_node_for m node) (list_all (is_node_for m) nodes) fit in
-    (record { fits = parts.0; bound = λ _. gives }, with_bounds m o Goal nodes gives parts.1)
+    (record { fits = parts.0; bound = λ _. gives }, with_bounds m value Goal nodes gives parts.1)
 
-without_bounds : (m : Model) (o : Outcome) (Goal : List ℤ → ℕ → Type 0) (nodes : List CertNode) → list_any is_bound nodes ≡ false → IsTrue (list_all (is_node_for m) nodes)
-    → AllByRecursion (Node m o Goal) nodes
-without_bounds m o Goal [] none fit = tt
-without_bounds m o Goal (node ∷ nodes) none fit =
+without_bounds : (m : Model) (value : Fraction) (Goal : List ℤ → ℕ → Type 0) (nodes : List CertNode) → list_any is_bound nodes ≡ false → IsTrue (list_all (is_node_for m) nodes)
+    → AllByRecursion (Node m value Goal) nodes
+without_bounds m value Goal [] none fit = tt
+without_bounds m value Goal (node ∷ nodes) none fit =
     let parts = and_parts (is_node_for m node) (list_all (is_node_for m) nodes) fit in
     let bounds = or_parts (is_bound node) (list_any is_bound nodes) none in
-    (record { fits = parts.0; bound = λ bound. absurd (true≢false (sym bound ∙ bounds.0)) }, without_bounds m o Goal nodes bounds.1 parts.1)
+    (record { fits = parts.0; bound = λ bound. absurd (true≢false (sym bound ∙ bounds.0)) }, without_bounds m value Goal nodes bounds.1 parts.1)
 
 -- Each feasible point is in one of the leaves.
-from_root : (m : Model) (o : Outcome) (Goal : List ℤ → ℕ → Type 0) (nodes : List CertNode) → IsLawful m → IsValid m o (Tree nodes) → AllByRecursion (Node m o Goal) nodes
+from_root : (m : Model) (o : Outcome) (Goal : List ℤ → ℕ → Type 0) (nodes : List CertNode) → IsLawful m → IsValid m o (Tree nodes) → AllByRecursion (Node m (value_of o.point) Goal) nodes
     → (X : List ℤ) (d : ℕ) → IsFeasible m X d → Goal X d
 from_root m o Goal nodes lawful valid each X d feasible =
-    (tree_meets m o Goal lawful 1 (under [] ∷ []) nodes each (tree_shape m o nodes valid).whole
-    (All-right Holds (point_looks m o.point) (tree_looks m o 1 (under [] ∷ []) nodes) (rest_holds m o (Tree nodes) valid))).0
+    (tree_meets m (value_of o.point) Goal lawful 1 (under [] ∷ []) nodes each (tree_shape m o nodes valid).whole
+    (All-right Holds (point_looks m o.point) (tree_looks m (value_of o.point) 1 (under [] ∷ []) nodes) (rest_holds m o (Tree nodes) valid))).0
     X d record { feasible = feasible; within = All-nil (IsWithinCut X d) }
 
 -- No feasible point is better than the kept one.
@@ -112,7 +112,7 @@ pub valid_tree : (m : Model) (o : Outcome) (nodes : List CertNode) → IsLawful 
     → (X : List ℤ) (d : ℕ) → IsFeasible m X d → IsBetter m.direction (objective_value m X d) (ratio (value_of o.point)) → ⊥
 valid_tree m o nodes lawful valid =
     from_root m o (λ X d. IsBetter m.direction (objective_value m X d) (ratio (value_of o.point)) → ⊥) nodes lawful valid
-    (with_bounds m o _ nodes (λ cuts leaf weights hold X d feasible. bound_holds m cuts leaf weights o X d lawful hold feasible) (tree_shape m o nodes valid).fit)
+    (with_bounds m (value_of o.point) _ nodes (λ cuts leaf weights hold X d feasible. bound_holds m cuts leaf weights (value_of o.point) X d lawful hold feasible) (tree_shape m o nodes valid).fit)
 
 -- ---- no point
 
@@ -127,4 +127,4 @@ valid_infeasible m o Nothing lawful valid infeasible X d feasible = refuted need
 valid_infeasible m o (Ray point ray) lawful valid infeasible X d feasible =
     refuted (λ s. s == UNBOUNDED) o.status INFEASIBLE infeasible refl (ray_shape m o point ray valid).status
 valid_infeasible m o (Tree nodes) lawful valid infeasible X d feasible =
-    from_root m o (λ _ _. ⊥) nodes lawful valid (without_bounds m o _ nodes (no_bounds m o nodes (tree_shape m o nodes valid) infeasible) (tree_shape m o nodes valid).fit) X d feasible
+    from_root m o (λ _ _. ⊥) nodes lawful valid (without_bounds m (value_of o.point) _ nodes (no_bounds m o nodes (tree_shape m o nodes valid) infeasible) (tree_shape m o nodes valid).fit) X d feasible

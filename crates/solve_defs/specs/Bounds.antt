@@ -1,5 +1,5 @@
 -- Between which values a variable stands: its own bounds, those that its kind adds, and those of the cuts on the way to a node.
-use Rattle.std.specs.Prelude.{ℕ, suc, ◌==◌, List, [], ◌∷◌, Option, Some, None, option_map, if◌then◌else◌}
+use Rattle.std.specs.Prelude.{ℕ, suc, ◌==◌, List, [], ◌∷◌, Option, Some, None, option_map, ℤ, if◌then◌else◌}
 use Rattle.frac128.specs.Fraction.{Fraction, one_value, zero_value}
 use Rattle.model_data.specs.declared.model.Model.{Model}
 use Rattle.model_data.specs.declared.model.Var.{Var}
@@ -37,6 +37,14 @@ kind_bounds Binary = record { lower = Some zero_value; upper = Some one_value }
 -- a variable's own bounds, with those from 0 to 1 for a binary one
 abbrev pub own_bounds : Var → Bounds
 own_bounds v = both (record { lower = v.lower; upper = v.upper }) (kind_bounds v.kind)
+
+-- the lower part of a split: the variable of this place is at most k
+abbrev pub at_most_cut : ℕ → ℤ → Cut
+at_most_cut place k = record { var = place; lower = None; upper = Some k }
+
+-- the upper part of a split: it is at least k
+abbrev pub at_least_cut : ℕ → ℤ → Cut
+at_least_cut place k = record { var = place; lower = Some k; upper = None }
 
 abbrev pub cut_bounds : Cut → Bounds
 cut_bounds cut = record { lower = option_map whole cut.lower; upper = option_map whole cut.upper }

@@ -21,7 +21,7 @@ use Rattle.model_data.specs.declared.solution.Outcome.{Outcome}
 use Rattle.model_data.specs.declared.solution.Point.{Point}
 use Rattle.model_data.specs.declared.solution.Weight.{Weight}
 use Rattle.model_data.specs.declared.solution.Weights.{Weights}
-use Rattle.solve_defs.specs.Bounds.{Bounds, effective_bounds}
+use Rattle.solve_defs.specs.Bounds.{Bounds, at_least_cut, at_most_cut, effective_bounds}
 use Rattle.solve_defs.specs.Looks.{Holds, Look, Step, minus, minus_times, plus, plus_times, verdict_of}
 use Rattle.solve_defs.specs.Values.{has_integers, is_at_most, is_below, is_same, is_whole, term_of, turned, value_at, whole}
 use Rattle.solve_defs.specs.declared.cut.Cut.{Cut}
@@ -156,11 +156,11 @@ value_of None = zero_value
 value_of (Some point) = point.value
 
 -- no point of the leaf is better than the value: the combination is the objective, to be maximized
-abbrev pub bound_claim : Model → Outcome → Claim
-bound_claim m o = record {
+abbrev pub bound_claim : Model → Fraction → Claim
+bound_claim m value = record {
   coefs = map (λ v. turned m.direction v.obj) m.vars;
   constant = turned m.direction m.constant;
-  holds = λ side. is_at_most side (turned m.direction (value_of o.point));
+  holds = λ side. is_at_most side (turned m.direction value);
 }
 
 -- the leaf has no point: the combination is 0, which would be at most less than 0
@@ -253,7 +253,7 @@ pub data Subtree : Type 0 where
 
 abbrev pub cuts_of : Subtree → List Cut
 cuts_of (under cuts) = cuts
-cuts_of (above cuts place k) = cuts ++ record { var = place; lower = Some (k +ℤ pos 1); upper = None } ∷ []
+cuts_of (above cuts place k) = cuts ++ at_least_cut place (k +ℤ pos 1) ∷ []
 
 -- To enter an upper subtree 1 is added to the split's number. The sum is taken as it is.
 abbrev pub entering_looks : Subtree → List Look
@@ -265,18 +265,18 @@ pred_number zero = zero
 pred_number (suc place) = place
 
 abbrev pub halves : List Cut → ℕ → ℤ → List Subtree
-halves cuts place k = under (cuts ++ record { var = place; lower = None; upper = Some k } ∷ []) ∷ above cuts place k ∷ []
+halves cuts place k = under (cuts ++ at_most_cut place k ∷ []) ∷ above cuts place k ∷ []
 
--- The nodes in preorder, with the subtrees that are to come, the next one first. Leaves are numbered from the given one on.
-abbrev pub tree_looks : Model → Outcome → ℕ → List Subtree → List CertNode → List Look
-tree_looks m o leaf later [] = []
-tree_looks m o leaf [] (node ∷ nodes) = []
-tree_looks m o leaf (own ∷ later) (Split var k ∷ nodes) =
-    entering_looks own ++ tree_looks m o leaf (halves (cuts_of own) (pred_number var) k ++ later) nodes
-tree_looks m o leaf (own ∷ later) (Bound weights ∷ nodes) =
-    entering_looks own ++ leaf_looks m (cuts_of own) leaf (bound_claim m o) weights ++ tree_looks m o (suc leaf) later nodes
-tree_looks m o leaf (own ∷ later) (Farkas weights ∷ nodes) =
-    entering_looks own ++ leaf_looks m (cuts_of own) leaf (farkas_claim m) weights ++ tree_looks m o (suc leaf) later nodes
+-- The nodes in preorder, with the subtrees that are to come, the next one first. Leaves are numbered from the given one on, and bounded by the value.
+abbrev pub tree_looks : Model → Fraction → ℕ → List Subtree → List CertNode → List Look
+tree_looks m value leaf later [] = []
+tree_looks m value leaf [] (node ∷ nodes) = []
+tree_looks m value leaf (own ∷ later) (Split var k ∷ nodes) =
+    entering_looks own ++ tree_looks m value leaf (halves (cuts_of own) (pred_number var) k ++ later) nodes
+tree_looks m value leaf (own ∷ later) (Bound weights ∷ nodes) =
+    entering_looks own ++ leaf_looks m (cuts_of own) leaf (bound_claim m value) weights ++ tree_looks m value (suc leaf) later nodes
+tree_looks m value leaf (own ∷ later) (Farkas weights ∷ nodes) =
+    entering_looks own ++ leaf_looks m (cuts_of own) leaf (farkas_claim m) weights ++ tree_looks m value (suc leaf) later nodes
 
 -- ---- a ray
 
@@ -316,7 +316,7 @@ ray_looks m point ray =
 abbrev pub certificate_looks : Model → Outcome → Cert → List Look
 certificate_looks m o Nothing = []
 certificate_looks m o (Ray point ray) = ray_looks m point ray
-certificate_looks m o (Tree nodes) = tree_looks m o 1 (under [] ∷ []) nodes
+certificate_looks m o (Tree nodes) = tree_looks m (value_of o.point) 1 (under [] ∷ []) nodes
 
 -- what is looked at, in order
 abbrev pub looks : Model → Outcome → Cert → List Look

@@ -1,3 +1,4 @@
+pub mod Answers
 pub mod Bounds
 pub mod Cases
 pub mod Certificates
@@ -8,5 +9,6 @@ pub mod Looks
 pub mod Path
 pub mod Plain
 pub mod Points
+pub mod Relaxations
 pub mod StandardForm
 pub mod Values

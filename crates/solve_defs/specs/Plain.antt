@@ -20,6 +20,7 @@ use Rattle.model_data.specs.declared.solution.WideAt.{WideAt}
 use Rattle.model_data.specs.declared.solution.Weights.{Weights}
 use Rattle.dictionary.specs.Dictionary.{Dictionary, entry, opening}
 use Rattle.dictionary.specs.declared.standard.Std.{Std}
+use Rattle.solve_defs.specs.Bounds.{at_least_cut, at_most_cut}
 use Rattle.solve_defs.specs.Ends.{dual_of, farkas_of, point_of, ray_of}
 use Rattle.solve_defs.specs.Path.{Coming, Entering, a_pivot, an_end, coming, entry_count, next}
 use Rattle.solve_defs.specs.StandardForm.{point_back, ray_back, shapes_of, standard_form, weights_back}
@@ -203,8 +204,8 @@ point_turn m p s node point =
 abbrev pub split_turn : Model → Params → Search → Node → ℕ → ℤ → Result Fraction Wide → Turn
 split_turn m p s node place k (Err wide) = silent (refused s.pivots wide s)
 split_turn m p s node place k (Ok next) =
-    let low = node.cuts ++ record { var = place; lower = None; upper = Some k } ∷ [] in
-    let high = node.cuts ++ record { var = place; lower = Some next.num; upper = None } ∷ [] in
+    let low = node.cuts ++ at_most_cut place k ∷ [] in
+    let high = node.cuts ++ at_least_cut place next.num ∷ [] in
     finish m p (with_finished s (Split (suc place) k) (low ∷ high ∷ [])) None
 
 abbrev pub at_fractional : Model → Params → Search → Node → Point → Option Placed → Turn

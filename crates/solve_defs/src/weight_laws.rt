@@ -7,9 +7,8 @@ ghost use Rattle.frac128.specs.Fraction.{Fraction, zero_value};
 ghost use Rattle.frac128.specs.Order.{IsBelow};
 ghost use Rattle.model_data.specs.Lawful.{IsLawful};
 ghost use Rattle.model_data.specs.declared.model.Model.{Model};
-ghost use Rattle.model_data.specs.declared.solution.Outcome.{Outcome};
 ghost use Rattle.model_data.specs.declared.solution.Weights.{Weights};
-ghost use Rattle.solve_defs.specs.Certificates.{bound_claim, farkas_claim, leaf_looks, value_of};
+ghost use Rattle.solve_defs.specs.Certificates.{bound_claim, farkas_claim, leaf_looks};
 ghost use Rattle.solve_defs.specs.LeafWeights.{Combines, IsNoBetterThanSide, no_coefs, objective_to_maximize, side_on};
 ghost use Rattle.solve_defs.specs.Looks.{Holds, Look, Step, formed, total_of, verdict_of};
 ghost use Rattle.solve_defs.specs.Points.{HasNoPoint, IsBetter, IsFeasible, objective_value, ratio, relaxation};
@@ -18,14 +17,14 @@ ghost use Rattle.solve_defs.specs.declared.cut.Cut.{Cut};
 ghost use Rattle.solve_defs.specs.declared.verdict.Verdict.TheVariants.{Valid};
 
 /// Where the weights combine the rows and the bounds into the objective, no point of the leaf has a better value than the side.
-/// So none is better than the kept point where the leaf's looks hold.
+/// So none is better than a value by which the leaf's looks hold.
 pub fn weights_bound_a_leaf()
     ensures side { (m : Model) (cuts : List Cut) (leaf : ℕ) (weights : Weights) (X : List ℤ) (d : ℕ) → IsLawful m
         → Combines m cuts leaf weights (objective_to_maximize m) → IsFeasible (relaxation m cuts) X d
         → IsNoBetterThanSide m.direction (objective_value m X d) (side_on (turned m.direction m.constant) m cuts weights) }
-    ensures none_better { (m : Model) (cuts : List Cut) (leaf : ℕ) (weights : Weights) (o : Outcome) (X : List ℤ) (d : ℕ) → IsLawful m
-        → All Holds (leaf_looks m cuts leaf (bound_claim m o) weights) → IsFeasible (relaxation m cuts) X d
-        → IsBetter m.direction (objective_value m X d) (ratio (value_of o.point)) → ⊥ }
+    ensures none_better { (m : Model) (cuts : List Cut) (leaf : ℕ) (weights : Weights) (value : Fraction) (X : List ℤ) (d : ℕ) → IsLawful m
+        → All Holds (leaf_looks m cuts leaf (bound_claim m value) weights) → IsFeasible (relaxation m cuts) X d
+        → IsBetter m.direction (objective_value m X d) (ratio value) → ⊥ }
 {}
 
 /// Where the weights combine the rows and the bounds into nothing, and the side is below 0, the leaf has no point.

@@ -234,3 +234,36 @@ opening_feasible s r e uniform low needed =
     let negative = negative_row s needed in
     subst (λ d. least_row d ≡ Some r → pivot r (artificial_column d) d ≡ Ok e → HasFeasibleConstants e) (sym (opening-with s needed))
     (λ h made. first_feasible r (without_artificial s) e (IsLawful-without s uniform low) (without-has_none s) (few_columns s uniform.column_limit) h made negative.place negative.within negative.low)
+
+-- ---- where the artificial variable enters, whether or not its pivot fits
+
+-- A pivot may be made on row r and column c.
+pub record IsPivotPlace (r c : ℕ) (d : Dictionary) : Type 0 where
+  pub row_above : 0 < r
+  pub row_within : r ≤ length d.basic
+  pub column_above : 0 < c
+  pub column_within : c ≤ length d.nonbasic
+  pub not_zero : (entry (slice_index_or d.rows (r - 1) []) c).num ≢ pos 0
+
+first_place : (r : ℕ) (d : Dictionary) → IsLawful d → HasNoArtificial d → least_row (with_artificial d) ≡ Some r → IsPivotPlace r (artificial_column (with_artificial d)) (with_artificial d)
+first_place r d lawful none h =
+    let least = least_with r d lawful h in
+    let is = least.is_row in
+    let below = least.within in
+    let same = lawful.shape.rows in
+    let column = same_column d none in
+    let columns = one_column_more d in
+    let place_is : r - 1 ≡ least.place = omega (arith, is) in
+    let row = row_with d least.place lawful (omega (arith, same, below)) in
+    record {
+      row_above = omega (arith, is);
+      row_within = subst (λ b. r ≤ length b) (sym (same_basic d)) (omega (arith, is, below));
+      column_above = omega (arith, column);
+      column_within = omega (arith, column, columns);
+      not_zero = subst₂ (λ place c. (entry (slice_index_or (with_artificial d).rows place []) c).num ≢ pos 0) (sym place_is) (sym column) (subst (λ a. a.num ≢ pos 0) (sym row.last) minus_one-not_zero);
+    }
+
+pub opening_place : (s : Std) (r : ℕ) → IsUniform s → HasReducedNumbers s → needs_phase_one s ≡ true → least_row (opening s) ≡ Some r → IsPivotPlace r (artificial_column (opening s)) (opening s)
+opening_place s r uniform low needed =
+    subst (λ d. least_row d ≡ Some r → IsPivotPlace r (artificial_column d) d) (sym (opening-with s needed))
+    (first_place r (without_artificial s) (IsLawful-without s uniform low) (without-has_none s))
