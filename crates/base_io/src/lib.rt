@@ -40,8 +40,3 @@ pub use source::{Got, Source};
 pub use std_sink::StdSink;
 pub use std_source::StdSource;
 pub use writing::{Wrote, put};
-
-#[cfg(test)]
-mod std_tests;
-#[cfg(test)]
-mod tests;

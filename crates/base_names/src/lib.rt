@@ -47,6 +47,3 @@ pub use seat::{JobId, Role, Seat};
 pub use seq::Seq;
 pub use text::Text;
 pub use writing::append;
-
-#[cfg(test)]
-mod tests;

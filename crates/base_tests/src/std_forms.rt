@@ -1,6 +1,6 @@
 //! The forms over std, over a reader and a writer that are interrupted, fail, and move little at once.
 
-use crate::{Got, LineReader, Piece, Sink, Source, StdSink, StdSource, Took, Wrote, put};
+use base_io::{Got, LineReader, Piece, Sink, Source, StdSink, StdSource, Took, Wrote, put};
 use std::io::{self, ErrorKind, Read, Write};
 use std::test::Fail;
 

@@ -2,7 +2,7 @@
 
 ghost use Rattle.std.specs.Prelude.{◌≡◌, None};
 
-use crate::{
+use base_io::{
     Got, LINE_LIMIT, LineReader, MemSink, MemSource, Piece, Sink, Source, Took, Wrote, put,
 };
 use base_names::{NoMemory, Text};

@@ -1,4 +1,10 @@
-use super::*;
+//! Names, ids, refusals and lists: their texts and their copies, from the rules in `specs/` of `base_names`.
+
+use base_names::{
+    FaultWord, Label, Name, NoMemory, NodeNo, OrMemory, Owner, OwnerLimit, Refusal, Seq, Tag, Text,
+    TryCopy, append, are_digits, read_decimal, read_digits, read_id, refusal_text, write_decimal,
+    write_id,
+};
 use std::alloc::Global;
 use std::test::Fail;
 
