@@ -60,6 +60,13 @@ impl LineReader {
         self.given
     }
 
+    /// The bytes that were taken from the source and not given yet.
+    pub fn held(&self) -> &[u8]
+        ensures { result.now ≡ self.now.bytes }
+    {
+        self.buffer.held()
+    }
+
     /// The next line. `End` where the input ends before a byte of it. Where no line is given, what was
     /// read meanwhile is kept for the next call.
     pub fn line<S: Source>(&mut self, alloc: Global, source: &mut S) -> Result<Piece, NoMemory>
