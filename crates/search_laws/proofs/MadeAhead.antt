@@ -12,7 +12,7 @@ use Rattle.solve_defs.specs.StandardForm.{standard_form}
 use Rattle.solve_defs.specs.declared.cut.Cut.{Cut}
 use Rattle.solve_defs.specs.declared.status.TheConstants.{NODE_LIMIT}
 use Rattle.frac128.proofs.Chains.{same_ok}
-use Rattle.search_laws.specs.Nodes.{Ahead, IsMade, IsRightAhead, Left, Relaxed, at_end, last_node, left_by, left_turn, out_of_pivots, out_of_work, relaxed, taken, too_wide, visited, visited_with, visits, visits_with, where_left}
+use Rattle.solve_defs.specs.Nodes.{Ahead, IsMade, IsRightAhead, Left, Relaxed, at_end, last_node, left_by, left_turn, out_of_pivots, out_of_work, relaxed, taken, too_wide, visited, visited_with, visits, visits_with, where_left}
 use Rattle.search_laws.specs.Turns.{Meets}
 use Rattle.search_laws.proofs.ByNodes.{plain_by_nodes}
 use Rattle.search_laws.proofs.Closing.{end_meets}
