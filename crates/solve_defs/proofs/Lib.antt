@@ -28,4 +28,5 @@ pub mod ValidRays
 pub mod ValidTrees
 pub mod Worked
 pub mod WorkedChecks
+pub mod WorkedChoices
 pub mod WorkedColumns

@@ -6,6 +6,7 @@ pub mod Columns
 pub mod Ends
 pub mod LeafWeights
 pub mod Looks
+pub mod Nodes
 pub mod Path
 pub mod Plain
 pub mod Points

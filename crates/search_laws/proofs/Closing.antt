@@ -1,0 +1,109 @@
+-- A node that ends: the solve ends, or the next node begins.
+use Rattle.std.proofs.Common.{◌≡◌, ◌≢◌, refl, IsTrue, is_some, arith, ℕ, suc, ℤ, List, [], ◌∷◌, ◌++◌, Option, Some, None, Result, Ok, Err}
+use Rattle.std.proofs.lemmas.Bool.{cond_both}
+use Rattle.frac128.specs.Fraction.{Fraction}
+use Rattle.frac128.specs.declared.operations.Wide.{Wide}
+use Rattle.model_data.specs.declared.model.Model.{Model}
+use Rattle.model_data.specs.declared.params.Params.{Params}
+use Rattle.model_data.specs.declared.solution.Cert.{Cert}
+use Rattle.model_data.specs.declared.solution.CertNode.{CertNode}
+use Rattle.model_data.specs.declared.solution.CertNode.TheVariants.{Bound, Farkas, Split}
+use Rattle.model_data.specs.declared.solution.Outcome.{Outcome}
+use Rattle.model_data.specs.declared.solution.Point.{Point}
+use Rattle.model_data.specs.declared.solution.SolEvent.{SolEvent}
+use Rattle.model_data.specs.declared.solution.WideAt.{WideAt}
+use Rattle.model_data.specs.declared.solution.Weights.{Weights}
+use Rattle.solve_defs.specs.Path.{an_end}
+use Rattle.solve_defs.specs.Plain.{Node, Placed, Progress, Search, Turn, at_fractional, at_point, begun, best_turn, bound_turn, finish, improves, node_turn, outcome, over, pointless_turn, ray_turn, split_turn, unbounded_turn, with_finished, with_node}
+use Rattle.solve_defs.specs.Values.{has_integers}
+use Rattle.solve_defs.specs.declared.cut.Cut.{Cut}
+use Rattle.solve_defs.specs.declared.solving.LpEnd.{LpEnd}
+use Rattle.solve_defs.specs.declared.solving.LpEnd.TheVariants.{Best, NoPoint, Unbounded}
+use Rattle.solve_defs.specs.declared.status.TheConstants.{INF_OR_UNBD, INTERRUPTED, ITERATION_LIMIT, NODE_LIMIT, NUMERIC, UNBOUNDED, WORK_LIMIT}
+use Rattle.solve_defs.specs.Bounds.{at_least_cut, at_most_cut}
+
+-- How a node may end the solve: not by a limit or a cut, and an operation is kept just where one was refused.
+pub record IsNodeEnd (o : Outcome) : Type 0 where
+  pub pivots : o.status ≢ ITERATION_LIMIT
+  pub nodes : o.status ≢ NODE_LIMIT
+  pub work : o.status ≢ WORK_LIMIT
+  pub uncut : o.status ≢ INTERRUPTED
+  pub refused : o.status ≡ NUMERIC → IsTrue (is_some o.wide)
+  pub not_refused : o.status ≢ NUMERIC → o.wide ≡ None
+
+-- what holds of each end, and wherever a next node begins with so many pivots and nodes
+pub record Everywhere (m : Model) (p : Params) (pivots nodes : ℕ) (P : Progress → Type 0) : Type 0 where
+  pub ends : (o : Outcome) (cert : Cert) → IsNodeEnd o → P (over o cert)
+  pub begins : (s : Search) (waiting : List (List Cut)) → s.pivots ≡ pivots → s.nodes ≡ nodes → P (begun m p s waiting)
+
+pub wide_end : (s : Search) (point : Option Point) (wide : WideAt) → IsNodeEnd (outcome NUMERIC s point (Some wide))
+wide_end s point wide = record {
+  pivots = λ e. absurd (omega (arith, e));
+  nodes = λ e. absurd (omega (arith, e));
+  work = λ e. absurd (omega (arith, e));
+  uncut = λ e. absurd (omega (arith, e));
+  refused = λ _. refl;
+  not_refused = λ other. absurd (other refl);
+}
+
+open_end : (s : Search) → IsNodeEnd (outcome INF_OR_UNBD s None None)
+open_end s = record {
+  pivots = λ e. absurd (omega (arith, e));
+  nodes = λ e. absurd (omega (arith, e));
+  work = λ e. absurd (omega (arith, e));
+  uncut = λ e. absurd (omega (arith, e));
+  refused = λ e. absurd (omega (arith, e));
+  not_refused = λ _. refl;
+}
+
+ray_end : (s : Search) → IsNodeEnd (outcome UNBOUNDED s None None)
+ray_end s = record {
+  pivots = λ e. absurd (omega (arith, e));
+  nodes = λ e. absurd (omega (arith, e));
+  work = λ e. absurd (omega (arith, e));
+  uncut = λ e. absurd (omega (arith, e));
+  refused = λ e. absurd (omega (arith, e));
+  not_refused = λ _. refl;
+}
+
+finish_meets : (m : Model) (p : Params) (P : Progress → Type 0) (s : Search) (own : CertNode) (below : List (List Cut)) (sol : Option SolEvent) → Everywhere m p s.pivots (suc s.nodes) P
+    → P (finish m p (with_finished s own below) sol).progress
+finish_meets m p P s own below sol all = all.begins (with_finished s own below) (below ++ s.waiting) refl refl
+
+bound_meets : (m : Model) (p : Params) (P : Progress → Type 0) (s : Search) (sol : Option SolEvent) (weights : Result Weights Wide) → Everywhere m p s.pivots (suc s.nodes) P → P (bound_turn m p s sol weights).progress
+bound_meets m p P s sol (Err wide) all = all.ends _ _ (wide_end s s.incumbent _)
+bound_meets m p P s sol (Ok weights) all = finish_meets m p P s (Bound weights) [] sol all
+
+pointless_meets : (m : Model) (p : Params) (P : Progress → Type 0) (s : Search) (weights : Result Weights Wide) → Everywhere m p s.pivots (suc s.nodes) P → P (pointless_turn m p s weights).progress
+pointless_meets m p P s (Err wide) all = all.ends _ _ (wide_end s s.incumbent _)
+pointless_meets m p P s (Ok weights) all = finish_meets m p P s (Farkas weights) [] None all
+
+split_meets : (m : Model) (p : Params) (P : Progress → Type 0) (s : Search) (node : Node) (place : ℕ) (k : ℤ) (next : Result Fraction Wide) → Everywhere m p s.pivots (suc s.nodes) P → P (split_turn m p s node place k next).progress
+split_meets m p P s node place k (Err wide) all = all.ends _ _ (wide_end s s.incumbent _)
+split_meets m p P s node place k (Ok next) all =
+    finish_meets m p P s (Split (suc place) k)
+    ((node.cuts ++ at_most_cut place k ∷ []) ∷ (node.cuts ++ at_least_cut place next.num ∷ []) ∷ []) None all
+
+fractional_meets : (m : Model) (p : Params) (P : Progress → Type 0) (s : Search) (node : Node) (point : Point) (v : Option Placed) → Everywhere m p s.pivots (suc s.nodes) P → P (at_fractional m p s node point v).progress
+fractional_meets m p P s node point None all = bound_meets m p P (record s { incumbent = Some point }) _ _ all
+fractional_meets m p P s node point (Some v) all = split_meets m p P s node v.place _ _ all
+
+point_meets : (m : Model) (p : Params) (P : Progress → Type 0) (s : Search) (node : Node) (value : Fraction) (xs : Result (List Fraction) Wide) → Everywhere m p s.pivots (suc s.nodes) P → P (at_point m p s node value xs).progress
+point_meets m p P s node value (Err wide) all = all.ends _ _ (wide_end s s.incumbent _)
+point_meets m p P s node value (Ok xs) all = fractional_meets m p P s node _ _ all
+
+best_meets : (m : Model) (p : Params) (P : Progress → Type 0) (s : Search) (node : Node) → Everywhere m p s.pivots (suc s.nodes) P → P (best_turn m p s node).progress
+best_meets m p P s node all =
+    cond_both {A = Turn} (improves m _ s.incumbent) _ _ (λ t. P t.progress) (λ _. point_meets m p P s node _ _ all) (λ _. bound_meets m p P s None _ all)
+
+ray_meets : (m : Model) (p : Params) (P : Progress → Type 0) (s : Search) (both : Result (List Fraction × List Fraction) Wide) → Everywhere m p s.pivots (suc s.nodes) P → P (ray_turn s both).progress
+ray_meets m p P s (Err wide) all = all.ends _ _ (wide_end s s.incumbent _)
+ray_meets m p P s (Ok both) all = all.ends _ _ (ray_end (with_node s))
+
+unbounded_meets : (m : Model) (p : Params) (P : Progress → Type 0) (s : Search) (node : Node) → Everywhere m p s.pivots (suc s.nodes) P → P (unbounded_turn m s node).progress
+unbounded_meets m p P s node all = cond_both {A = Turn} (has_integers m) _ _ (λ t. P t.progress) (λ _. all.ends _ _ (open_end (with_node s))) (λ _. ray_meets m p P s _ all)
+
+pub end_meets : (m : Model) (p : Params) (P : Progress → Type 0) (s : Search) (node : Node) (e : LpEnd) → Everywhere m p s.pivots (suc s.nodes) P → P (node_turn m p s node (an_end e)).progress
+end_meets m p P s node Best all = best_meets m p P s node all
+end_meets m p P s node NoPoint all = pointless_meets m p P s _ all
+end_meets m p P s node Unbounded all = unbounded_meets m p P s node all

@@ -1,0 +1,67 @@
+-- Where a search stands between two turns: what its tree shows so far, and what is still to come.
+use Rattle.std.specs.Prelude.{◌≡◌, ◌⊎◌, IsTrue, true, false, List, [], ◌∷◌, length, map, All, IfSome, Option, Some, None}
+use Rattle.std.specs.List.{list_all, list_any}
+use Rattle.frac128.specs.Order.{IsAtMost}
+use Rattle.model_data.specs.declared.model.Direction.{Direction}
+use Rattle.model_data.specs.declared.model.Model.{Model}
+use Rattle.model_data.specs.declared.solution.Cert.{Cert}
+use Rattle.model_data.specs.declared.solution.CertNode.{CertNode}
+use Rattle.model_data.specs.declared.solution.Outcome.{Outcome}
+use Rattle.model_data.specs.declared.solution.Point.{Point}
+use Rattle.solve_defs.specs.Certificates.{IsValid, Subtree, cuts_of, is_bound, is_node_for, point_looks, tree_looks, under, value_of}
+use Rattle.solve_defs.specs.Looks.{Holds}
+use Rattle.solve_defs.specs.Plain.{Node, Search}
+use Rattle.solve_defs.specs.Points.{IsUnbounded, relaxation}
+use Rattle.solve_defs.specs.Values.{has_integers, turned}
+use Rattle.solve_defs.specs.declared.cut.Cut.{Cut}
+use Rattle.solve_defs.specs.declared.status.TheConstants.{INF_OR_UNBD, UNBOUNDED}
+use Rattle.solve_defs.specs.Relaxations.{IsReached}
+use Rattle.search_laws.specs.Trees.{still_open}
+
+-- the point that is kept at last is no worse than the best so far
+abbrev pub IsNoWorse : Direction → Option Point → Option Point → Type 0
+IsNoWorse direction None kept = Unit {0}
+IsNoWorse direction (Some best) None = ⊥
+IsNoWorse direction (Some best) (Some kept) = IsAtMost (turned direction best.value) (turned direction kept.value)
+
+-- The point's looks hold.
+pub record IsKept (m : Model) (point : Point) : Type 0 where
+  pub long : length point.xs ≡ length m.vars
+  pub looks : All Holds (point_looks m (Some point))
+
+-- The finished nodes with the best point so far, where subtrees under these cuts are still to come.
+pub record IsTreeTo (m : Model) (incumbent : Option Point) (tree : List CertNode) (pending : List (List Cut)) : Type 0 where
+  pub later : List Subtree
+  pub is_open : still_open (under [] ∷ []) tree ≡ Some later
+  pub waits : map cuts_of later ≡ pending
+  -- the shape of its nodes
+  pub fits : IsTrue (list_all (is_node_for m) tree)
+  -- each look of a leaf holds, whatever better point is kept at last
+  pub holds : (last : Option Point) → IsNoWorse m.direction incumbent last → All Holds (tree_looks m (value_of last) 1 (under [] ∷ []) tree)
+  -- a leaf is closed by a value only where there is one
+  pub no_bounds : incumbent ≡ None → list_any is_bound tree ≡ false
+  pub kept : IfSome incumbent (IsKept m)
+
+-- the cuts of the node under way before those of the nodes that are to begin
+abbrev pub with_own : Option Node → List (List Cut) → List (List Cut)
+with_own None waiting = waiting
+with_own (Some node) waiting = node.cuts ∷ waiting
+
+-- a search between two turns
+pub record Stands (m : Model) (s : Search) : Type 0 where
+  pub tree : IsTreeTo m s.incumbent s.tree (with_own s.node s.waiting)
+  pub node : IfSome s.node (λ node. IsReached m node.cuts node.dictionary)
+
+-- an end: the certificate is valid, and a status that claims no certificate says what it says
+pub record IsRight (m : Model) (o : Outcome) (cert : Cert) : Type 0 where
+  pub valid : IsValid m o cert
+  pub relaxed : o.status ≡ INF_OR_UNBD → (has_integers m ≡ true) × IsUnbounded (relaxation m [])
+
+-- The root is under way, or its relaxation has a bound.
+abbrev pub IsRooted : Model → Search → Type 0
+IsRooted m s = ((s.tree ≡ []) × (s.incumbent ≡ None) × (s.nodes ≡ 0)) ⊎ (IsUnbounded (relaxation m []) → ⊥)
+
+-- A relaxation without a bound is the root's.
+pub record IsAtRoot (o : Outcome) : Type 0 where
+  pub relaxed : o.status ≡ INF_OR_UNBD → o.nodes ≡ 1
+  pub whole : o.status ≡ UNBOUNDED → o.nodes ≡ 1
