@@ -1,0 +1,2 @@
+pub mod OnPath
+pub mod Turns
