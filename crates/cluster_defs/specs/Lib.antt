@@ -17,15 +17,12 @@ pub mod Own
 pub mod OwnHistory
 pub mod Part
 pub mod Placement
-pub mod Places
 pub mod Plain
 pub mod Reading
 pub mod Refusals
 pub mod Replies
 pub mod Room
-pub mod Seated
 pub mod Site
-pub mod Sound
 pub mod Step
 pub mod Store
 pub mod Told
