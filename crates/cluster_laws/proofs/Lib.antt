@@ -26,6 +26,7 @@ pub mod SoundCommands
 pub mod SoundOpenings
 pub mod SoundSteps
 pub mod Standing
+pub mod Staying
 pub mod Store
 pub mod TakenRecords
 pub mod Waiters

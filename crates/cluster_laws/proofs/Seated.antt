@@ -116,7 +116,7 @@ none_is : {A : Type 0} (x : Option A) → is_none x ≡ true → x ≡ None
 none_is None h = refl
 none_is (Some x) h = absurd (grind (arith, h))
 
-no_job : (s : Seat) (jobs : List Job) → unless (is_none (job_of s jobs)) STATE ≡ None → jobs_for s jobs ≡ []
+pub no_job : (s : Seat) (jobs : List Job) → unless (is_none (job_of s jobs)) STATE ≡ None → jobs_for s jobs ≡ []
 no_job s jobs h = none_filter (λ job. is_seat s job.seat) jobs (none_is (job_of s jobs) (unless_none (is_none (job_of s jobs)) STATE h))
 
 new_stands : (c : Cluster) (seat s : Seat) (priority : ℤ) (b : Bool) → is_seat s seat ≡ b → jobs_for seat c.jobs ≡ [] → IsSeated c → SeatStands (jobs_for s (jobs_after c.given seat (asks.Job priority) c.jobs)) (waits_at s (waiting_after c seat (asks.Job priority)))
@@ -152,7 +152,7 @@ found_passes : {A : Type 0} (p : A → Bool) (xs : List A) (x : A) → find p xs
 found_passes p [] x h = absurd (grind (arith, h))
 found_passes p (y ∷ ys) x h = passes_by p y ys x (p y) refl h (found_passes p ys x)
 
-found_seat : (seat : Seat) (job : Job) (jobs : List Job) → job_of seat jobs ≡ Some job → seat ≡ job.seat
+pub found_seat : (seat : Seat) (job : Job) (jobs : List Job) → job_of seat jobs ≡ Some job → seat ≡ job.seat
 found_seat seat job jobs h = seat_is seat job.seat (found_passes (λ (j : Job). is_seat seat j.seat) jobs job h)
 
 -- what waits of a seat that leaves its job

@@ -36,7 +36,7 @@ placed_settled c seated = record { seated = placing_is_seated c seated; full = n
 state_among : (a b d e rest : Option Refusal) → or_else a (or_else b (or_else d (or_else e rest))) ≡ None → e ≡ None
 state_among a b d e rest p = or_first e rest (or_then d _ (or_then b _ (or_then a _ p)))
 
-state_from : (k : Site) (c : Cluster) (seat : Seat) (ask : Ask) (f : Faults) → ask_refusal k c seat ask f ≡ None → state_refusal c.jobs seat ask ≡ None
+pub state_from : (k : Site) (c : Cluster) (seat : Seat) (ask : Ask) (f : Faults) → ask_refusal k c seat ask f ≡ None → state_refusal c.jobs seat ask ≡ None
 state_from k c seat ask f h = state_among (role_refusal seat ask) (node_refusal c.nodes ask) (range_refusal ask) (state_refusal c.jobs seat ask) _ h
 
 asked_settles : (k : Site) (c : Cluster) (seat : Seat) (ask : Ask) (f : Faults) (x0 x : Option Refusal) → ask_refusal k c seat ask f ≡ x → IsSettled c → IsSettled (within_limit c x0 (asked_with k c seat ask x)).next
@@ -44,9 +44,12 @@ asked_settles k c seat ask f (Some r) x h s = s
 asked_settles k c seat ask f None (Some r) h seated = placed_settled (record c { usage = count_reply k c seat ask (tells.Refused r) }) seated.seated
 asked_settles k c seat ask f None None h seated = let s = placed_settled (done k c seat ask) (done_is_seated k c seat ask (state_from k c seat ask f h) seated.seated) in record { seated = s.seated; full = s.full }
 
+pub result_is_seated : (k : Site) (c : Cluster) (id : BatchId) (n : ℕ) (result : BatchResult) → IsSeated c → IsSeated (with_result k c id n result)
+result_is_seated k c id n result seated s = stands_as _ (jobs_for s c.jobs) _ (waits_at s c.waiting) refl (dequeue_else s (waits.Batch id n) c.waiting refl) (seated s)
+
 finish_settles : (k : Site) (c : Cluster) (id : BatchId) (n : ℕ) (result : BatchResult) (f : Faults) (o w : Bool) → still_open n (row_of id c.table) ≡ o → nat_le f.after f.before ≡ w → IsSettled c → IsSettled (step k c (Finished id n result) f).next
 finish_settles k c id n result f false w h g seated = rw h (placed_settled c seated.seated)
-finish_settles k c id n result f true true h g seated = rw (h, g) (placed_settled (with_result k c id n result) (λ s. stands_as _ (jobs_for s c.jobs) _ (waits_at s c.waiting) refl (dequeue_else s (waits.Batch id n) c.waiting refl) (seated.seated s)))
+finish_settles k c id n result f true true h g seated = rw (h, g) (placed_settled (with_result k c id n result) (result_is_seated k c id n result seated.seated))
 finish_settles k c id n result f true false h g seated = rw (h, g) (placed_settled (with_returned c id n) seated.seated)
 
 left_settles : (k : Site) (c : Cluster) (id : BatchId) (n : ℕ) (f : Faults) (o : Bool) → still_open n (row_of id c.table) ≡ o → IsSettled c → IsSettled (step k c (Left id n) f).next

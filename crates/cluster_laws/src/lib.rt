@@ -5,7 +5,7 @@
 //! found, and `specs/Sound.antt` and `specs/Seated.antt` how a batch and a seat stand in every history.
 //!
 //! - placing: [`placing_repeats_the_rule`], [`each_place_is_the_best`];
-//! - behind every history: [`each_batch_waits_or_runs_once`], [`none_that_waits_may_run`], [`jobs_are_listed_in_order`],
+//! - behind every history: [`each_batch_waits_or_runs_once`], [`none_that_waits_may_run`], [`what_runs_stays`], [`jobs_are_listed_in_order`],
 //!   [`nodes_keep_their_numbers`], [`counted_entries_stay_within_their_limit`];
 //! - a cluster without nodes: [`batches_are_kept_without_nodes`];
 //! - each owner is alone: [`one_step_is_an_own_step`], [`replies_are_own_replies`], [`a_look_is_an_own_look`];
@@ -27,6 +27,6 @@ pub use journal_laws::{
 pub use placing_laws::{each_place_is_the_best, placing_repeats_the_rule};
 pub use standing_laws::{
     counted_entries_stay_within_their_limit, each_batch_waits_or_runs_once,
-    jobs_are_listed_in_order, nodes_keep_their_numbers, none_that_waits_may_run,
+    jobs_are_listed_in_order, nodes_keep_their_numbers, none_that_waits_may_run, what_runs_stays,
 };
 pub use step_laws::batches_are_kept_without_nodes;

@@ -1,5 +1,5 @@
 //! What holds of a cluster behind every step and every history, as contracts without code.
-ghost use Rattle.std.specs.Prelude.{◌≡◌, ◌≤◌, ℕ, Bool, List, [], ◌∷◌, filter, is_some, length, not, true};
+ghost use Rattle.std.specs.Prelude.{◌≡◌, ◌≤◌, ℕ, Bool, List, [], ◌∷◌, false, filter, is_some, length, not, true};
 ghost use Rattle.base_names.specs.declared.seat.Seat.{Seat};
 ghost use Rattle.model_data.specs.declared.batch.BatchRecord.{BatchRecord};
 ghost use Rattle.model_data.specs.declared.batch.BatchRow.{BatchRow};
@@ -7,17 +7,18 @@ ghost use Rattle.table_defs.specs.Names.{Owner};
 ghost use Rattle.table_defs.specs.Outcomes.{IsRisingFrom};
 ghost use Rattle.table_defs.specs.Table.{Table, after, no_rows};
 ghost use Rattle.table_defs.specs.Taken.{AreTaken};
-ghost use Rattle.cluster_defs.specs.Cluster.{Cluster, Job, lines, numbers_of, usage_of};
+ghost use Rattle.cluster_defs.specs.Cluster.{Cluster, Job, Running, lines, numbers_of, usage_of};
 ghost use Rattle.cluster_defs.specs.Deeds.{Deed, Faults};
 ghost use Rattle.cluster_defs.specs.Entries.{Entry};
 ghost use Rattle.cluster_defs.specs.Legal.{GivenBack, IsLegal, cluster_behind};
 ghost use Rattle.cluster_defs.specs.Listing.{AreInOrder, IsInOrder, by_id, listed_jobs};
 ghost use Rattle.cluster_defs.specs.Opened.{opened};
 ghost use Rattle.cluster_defs.specs.Placement.{place, settled};
-ghost use Rattle.cluster_laws.specs.Places.{lines_behind};
+ghost use Rattle.cluster_laws.specs.Places.{IsIn, lines_behind};
 ghost use Rattle.cluster_laws.specs.Seated.{IsSeated, IsSettled, jobs_for};
 ghost use Rattle.cluster_defs.specs.Site.{Site};
 ghost use Rattle.cluster_laws.specs.Sound.{IsSound};
+ghost use Rattle.cluster_laws.specs.Staying.{RunsOn, ends_attempt, ends_job};
 ghost use Rattle.cluster_defs.specs.Step.{step};
 ghost use Rattle.cluster_defs.specs.Waiters.{is_seat};
 
@@ -36,6 +37,13 @@ pub fn none_that_waits_may_run()
     ensures step { (k : Site) (c : Cluster) (d : Deed) (f : Faults) → IsSettled c → IsSettled (step k c d f).next }
     ensures lines { (c : Cluster) → IsSeated c → lines (settled (place c) c) ≡ lines_behind (place c) (lines c) }
     ensures stays { (c : Cluster) (s : Seat) (j : Job) → IsSeated c → jobs_for s c.jobs ≡ j ∷ [] → is_some j.node ≡ true → jobs_for s (settled (place c) c).jobs ≡ j ∷ [] }
+{}
+
+/// What has a place keeps it over a whole step: a job that has a node, and an attempt that runs, run on there unless the deed
+/// ends them.
+pub fn what_runs_stays()
+    ensures job { (k : Site) (c : Cluster) (d : Deed) (f : Faults) (s : Seat) (j : Job) → IsSeated c → jobs_for s c.jobs ≡ j ∷ [] → is_some j.node ≡ true → ends_job j d (step k c d f).reply ≡ false → RunsOn j (jobs_for s (step k c d f).next.jobs) }
+    ensures attempt { (k : Site) (c : Cluster) (d : Deed) (f : Faults) (r : Running) → IsIn r c.placed → ends_attempt r d (step k c d f).reply ≡ false → IsIn r (step k c d f).next.placed }
 {}
 
 /// The jobs that are listed are those that are not lost, each once, by seat number, then by owner, then by role. A batch that
