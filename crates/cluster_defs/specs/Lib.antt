@@ -4,8 +4,10 @@ pub mod Asking
 pub mod Asks
 pub mod Charges
 pub mod Cluster
+pub mod Counted
 pub mod Deeds
 pub mod Effects
+pub mod Ends
 pub mod Entries
 pub mod Journal
 pub mod Legal

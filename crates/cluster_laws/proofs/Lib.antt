@@ -2,6 +2,8 @@ pub mod Allowed
 pub mod BatchOrder
 pub mod Beliefs
 pub mod Counts
+pub mod Ends
+pub mod Faults
 pub mod Histories
 pub mod HistoryLooks
 pub mod Journals

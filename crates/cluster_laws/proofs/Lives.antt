@@ -122,7 +122,7 @@ stop_ends k event c j next events tells same r b =
 pub life_reaches : {k : Site} {events : List Event} {j : Journal} → Life k events j → Reaches events j
 life_reaches untouched = start
 life_reaches (opened_in_vain next before becomes) = further was_not_opened next (life_reaches before) (tt, becomes)
-life_reaches {k} (lived {events = events} {j = j} first last next o before becomes legal may brings stops) =
+life_reaches {k} (lived {events = events} {j = j} first last next o before becomes ended legal may brings stops) =
     let r : Reaches (was_opened ∷ events) first = further was_opened first (life_reaches before) (tt, becomes) in
     let t = table_behind first in
     let g = opened_is_good k t o.end (keyed_after first.records (reached_sound r).taken) in

@@ -156,7 +156,7 @@ none_plain k = record { there = tt; doubt = none_doubt k (table_behind none_yet)
 pub life_plain : {k : Site} {events : List Event} {j : Journal} → Life k events j → IsPlainJournal k j
 life_plain {k} untouched = none_plain k
 life_plain {k} (opened_in_vain {j = j} next before becomes) = becomes_plain k was_not_opened j next becomes tt (life_plain before)
-life_plain {k} (lived {events = events} {j = j} first last next o before becomes legal may brings stops) =
+life_plain {k} (lived {events = events} {j = j} first last next o before becomes ended legal may brings stops) =
     let r : Reaches (was_opened ∷ events) first = further was_opened first (life_reaches before) (tt, becomes) in
     let t = table_behind first in
     let g = opened_is_good k t o.end (keyed_after first.records (reached_sound r).taken) in
