@@ -35,7 +35,7 @@ usages u all = filter (λ x. is_owner u x.owner) all
 by_head : (u : Owner) (all : List Usage) → usage_of u all ≡ usage_or u (head_of (usages u all))
 by_head u all = ap (usage_or u) (find_head (λ x. is_owner u x.owner) all)
 
-none_of_both : {A : Type 0} (p : A → Bool) (xs : List A) → filter p (filter (λ x. not (p x)) xs) ≡ []
+pub none_of_both : {A : Type 0} (p : A → Bool) (xs : List A) → filter p (filter (λ x. not (p x)) xs) ≡ []
 none_of_both p [] = refl
 none_of_both p (x ∷ xs) = grind (arith, none_of_both p xs)
 

@@ -16,6 +16,7 @@ pub mod OwnDeeds
 pub mod OwnEffects
 pub mod OwnLooks
 pub mod OwnPlaces
+pub mod Pigeons
 pub mod Records
 pub mod Results
 pub mod Room
@@ -23,6 +24,7 @@ pub mod Rule
 pub mod Running
 pub mod Seated
 pub mod Settling
+pub mod Small
 pub mod Sound
 pub mod SoundCommands
 pub mod SoundOpenings
@@ -30,5 +32,7 @@ pub mod SoundSteps
 pub mod Standing
 pub mod Staying
 pub mod Store
+pub mod Sums
 pub mod TakenRecords
 pub mod Waiters
+pub mod Weights

@@ -1,5 +1,5 @@
 -- More of how a filter goes with what is done to a list.
-use Rattle.std.proofs.Common.{◌≡◌, refl, ap, ◌∙◌, ◌+◌, ◌≤◌, Bool, true, false, List, [], ◌∷◌, length, map, Option, Some, None, cond, arith}
+use Rattle.std.proofs.Common.{◌≡◌, refl, sym, ap, ◌∙◌, ◌+◌, ◌≤◌, Bool, true, false, List, [], ◌∷◌, length, map, Option, Some, None, cond, arith}
 use Rattle.std.specs.Prelude.{filter, find}
 use Rattle.table_defs.specs.Lists.{changed}
 
@@ -17,6 +17,17 @@ head_of (x ∷ xs) = Some x
 pub find_head : {A : Type 0} (p : A → Bool) (xs : List A) → find p xs ≡ head_of (filter p xs)
 find_head p [] = refl
 find_head p (x ∷ xs) = grind (arith, find_head p xs)
+
+pub some_same : {A : Type 0} (x y : A) → Some x ≡ Some y → x ≡ y
+some_same x y h = cc
+
+passes_by : {A : Type 0} (p : A → Bool) (y : A) (ys : List A) (x : A) (b : Bool) → p y ≡ b → cond b (Some y) (find p ys) ≡ Some x → (find p ys ≡ Some x → p x ≡ true) → p x ≡ true
+passes_by p y ys x true is h later = ap p (sym (some_same y x h)) ∙ is
+passes_by p y ys x false is h later = later h
+
+pub found_passes : {A : Type 0} (p : A → Bool) (xs : List A) (x : A) → find p xs ≡ Some x → p x ≡ true
+found_passes p [] x h = absurd (grind (arith, h))
+found_passes p (y ∷ ys) x h = passes_by p y ys x (p y) refl h (found_passes p ys x)
 
 pub none_changed : {A : Type 0} (test : A → Bool) (f : A → A) (xs : List A) → filter test xs ≡ [] → changed test f xs ≡ xs
 none_changed test f [] h = refl

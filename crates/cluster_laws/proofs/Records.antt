@@ -1,7 +1,7 @@
 -- What an entry tells of the journal: its record was taken, and table and end are as with it, or as before.
 use Rattle.std.proofs.Common.{◌≡◌, refl, sym, ap, ◌∙◌, subst, ℕ, ◌==◌, Bool, true, false, List, [], ◌∷◌, Option, Some, None, arith}
 use Rattle.std.specs.Prelude.{nat_le, ⊤}
-use Rattle.base_names.specs.declared.refusal.OwnerLimit.TheVariants.{Commands}
+use Rattle.base_names.specs.declared.refusal.OwnerLimit.TheVariants.{Commands, Numbers}
 use Rattle.base_names.specs.declared.refusal.Refusal.{Refusal}
 use Rattle.base_names.specs.declared.refusal.Refusal.TheVariants.{BATCHSTATE, DISK, NODE, NOJOB, NONODE, OWNERFULL, RANGE, ROLE, STATE}
 use Rattle.base_names.specs.declared.id.BatchId.{BatchId}
@@ -40,11 +40,11 @@ use Rattle.cluster_defs.specs.Deeds.{Deed}
 
 -- ---- only the last test is that of the disk
 
-abbrev is_disk : Refusal → Bool
+abbrev pub is_disk : Refusal → Bool
 is_disk (DISK before after) = true
 is_disk refusal = false
 
-abbrev IsOther : Option Refusal → Type 0
+abbrev pub IsOther : Option Refusal → Type 0
 IsOther None = ⊤
 IsOther (Some refusal) = is_disk refusal ≡ false
 
@@ -92,12 +92,16 @@ other_batch t seat (asks.Discard id) = other_row is_over (seen_row seat id t)
 other_batch t seat (asks.Retry id) = other_row may_retry (seen_row seat id t)
 other_batch t seat ask = tt
 
+other_numbers : (t : Table) (seat : Seat) (ask : Ask) → IsOther (numbers_refusal t seat ask)
+other_numbers t seat (asks.Create body) = other_unless _ (OWNERFULL Numbers) refl
+other_numbers t seat ask = tt
+
 -- a refusal of the disk is none of those before it
 past : (x rest : Option Refusal) (r : Refusal) → IsOther x → is_disk r ≡ true → or_else x rest ≡ Some r → (x ≡ None) × (rest ≡ Some r)
 past None rest r other disk h = (refl, h)
 past (Some q) rest r other disk h = let e : q ≡ r = cc in let k : is_disk r ≡ false = sym (ap is_disk e) ∙ other in absurd (grind (arith, k, disk))
 
-disk_is_last : (k : Site) (c : Cluster) (seat : Seat) (ask : Ask) (f : Faults) (r : Refusal) → is_disk r ≡ true → ask_refusal k c seat ask f ≡ Some r → batch_refusal c.table seat ask ≡ None
+pub disk_is_last : (k : Site) (c : Cluster) (seat : Seat) (ask : Ask) (f : Faults) (r : Refusal) → is_disk r ≡ true → ask_refusal k c seat ask f ≡ Some r → (batch_refusal c.table seat ask ≡ None) × (numbers_refusal c.table seat ask ≡ None)
 disk_is_last k c seat ask f r disk h =
     let a = past (role_refusal seat ask) _ r (other_unless _ ROLE refl) disk h in
     let b = past (node_refusal c.nodes ask) _ r (other_node c.nodes ask) disk a.1 in
@@ -106,7 +110,8 @@ disk_is_last k c seat ask f r disk h =
     let g = past (job_refusal c.jobs seat ask) _ r (other_job c.jobs seat ask) disk e.1 in
     let i = past (marked_refusal c.jobs ask) _ r (other_marked c.jobs ask) disk g.1 in
     let j = past (alive_refusal c.nodes ask) _ r (other_alive c.nodes ask) disk i.1 in
-    (past (batch_refusal c.table seat ask) _ r (other_batch c.table seat ask) disk j.1).0
+    let l = past (batch_refusal c.table seat ask) _ r (other_batch c.table seat ask) disk j.1 in
+    (l.0, (past (numbers_refusal c.table seat ask) _ r (other_numbers c.table seat ask) disk l.1).0)
 
 -- ---- a command
 
@@ -130,6 +135,12 @@ done_event c ps seat (asks.Retry id) = refl
 done_event c ps seat (asks.Fail node) = lost_answer (attempts_at node c.placed) tells.Done (λ r. refl)
 done_event c ps seat ask = refl
 
+numbers_among : (a b d e g h i j l rest : Option Refusal) → or_else a (or_else b (or_else d (or_else e (or_else g (or_else h (or_else i (or_else j (or_else l rest)))))))) ≡ None → l ≡ None
+numbers_among a b d e g h i j l rest p = or_first l rest (or_then j _ (or_then i _ (or_then h _ (or_then g _ (or_then e _ (or_then d _ (or_then b _ (or_then a _ p))))))))
+
+pub numbers_from : (k : Site) (c : Cluster) (seat : Seat) (ask : Ask) (f : Faults) → ask_refusal k c seat ask f ≡ None → numbers_refusal c.table seat ask ≡ None
+numbers_from k c seat ask f h = numbers_among (role_refusal seat ask) (node_refusal c.nodes ask) (range_refusal ask) (state_refusal c.jobs seat ask) (job_refusal c.jobs seat ask) (marked_refusal c.jobs ask) (alive_refusal c.nodes ask) (batch_refusal c.table seat ask) (numbers_refusal c.table seat ask) _ h
+
 room_among : (a b d e g h i j l m n rest : Option Refusal) → or_else a (or_else b (or_else d (or_else e (or_else g (or_else h (or_else i (or_else j (or_else l (or_else m (or_else n rest)))))))))) ≡ None → n ≡ None
 room_among a b d e g h i j l m n rest p = or_first n rest (or_then m _ (or_then l _ (or_then j _ (or_then i _ (or_then h _ (or_then g _ (or_then e _ (or_then d _ (or_then b _ (or_then a _ p))))))))))
 
@@ -146,16 +157,16 @@ refused_tells k c d refusal None table end taken = (table, end)
 refused_tells k c d (DISK before after) (Some r) table end taken = (taken refl, table, end)
 refused_tells k c d refusal (Some r) table end taken = (table, end)
 
-commands_other : (b : Bool) → IsOther (unless b (OWNERFULL Commands))
+pub commands_other : (b : Bool) → IsOther (unless b (OWNERFULL Commands))
 commands_other b = other_unless b (OWNERFULL Commands) refl
 
-disk_other : (r : Refusal) → is_disk r ≡ false → is_disk r ≡ true → ⊥
+pub disk_other : (r : Refusal) → is_disk r ≡ false → is_disk r ≡ true → ⊥
 disk_other r a b = grind (arith, a, b)
 
 asked_tells : (k : Site) (c : Cluster) (seat : Seat) (ask : Ask) (f : Faults) (x0 x : Option Refusal) → IsOther x0 → ask_refusal k c seat ask f ≡ x → IsSound c
     → Tells k (event_of (within_limit c x0 (asked_with k c seat ask x)).reply (record_of c.table c.placed seat ask)) c (within_limit c x0 (asked_with k c seat ask x)).next
 asked_tells k c seat ask f (Some r) x other h good = refused_tells k c c r (record_of c.table c.placed seat ask) refl refl (λ disk. absurd (disk_other r other disk))
-asked_tells k c seat ask f None (Some r) other h good = refused_tells k c _ r (record_of c.table c.placed seat ask) refl refl (λ disk. record_taken c seat ask good.sound (disk_is_last k c seat ask f r disk h))
+asked_tells k c seat ask f None (Some r) other h good = refused_tells k c _ r (record_of c.table c.placed seat ask) refl refl (λ disk. record_taken c seat ask good.sound (disk_is_last k c seat ask f r disk h).0)
 asked_tells k c seat ask f None None other h good =
     let next = (done_ask k c seat ask).next in
     subst (λ (event : Option Event). Tells k event c next) (sym (done_event c (place (done k c seat ask)) seat ask))

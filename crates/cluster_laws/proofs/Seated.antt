@@ -28,7 +28,7 @@ use Rattle.table_defs.proofs.Lists.{each_part, filter_changed, filter_changed_ot
 use Rattle.table_defs.proofs.Names.{and_left, bool_off}
 use Rattle.table_defs.proofs.Rows.{unless_none}
 use Rattle.cluster_laws.proofs.Listings.{seat_parts}
-use Rattle.cluster_laws.proofs.Lists.{find_head, head_of}
+use Rattle.cluster_laws.proofs.Lists.{find_head, found_passes, head_of, some_same}
 use Rattle.cluster_laws.proofs.Standing.{Comes, comes_of}
 use Rattle.cluster_laws.proofs.Waiters.{waiter_refl}
 use Rattle.cluster_defs.specs.Asks.{Ask}
@@ -140,17 +140,6 @@ other_seat s seat x other own = bool_off (is_seat seat x) (λ h. let e = seat_is
 
 left_else : (seat s : Seat) (jobs : List Job) → is_seat s seat ≡ false → jobs_for s (without_job seat jobs) ≡ jobs_for s jobs
 left_else seat s jobs other = filter_others (λ (j : Job). is_seat s j.seat) (λ (j : Job). not (is_seat seat j.seat)) (λ j own. ap not (other_seat s seat j.seat other own)) jobs
-
-some_same : {A : Type 0} (x y : A) → Some x ≡ Some y → x ≡ y
-some_same x y h = cc
-
-passes_by : {A : Type 0} (p : A → Bool) (y : A) (ys : List A) (x : A) (b : Bool) → p y ≡ b → cond b (Some y) (find p ys) ≡ Some x → (find p ys ≡ Some x → p x ≡ true) → p x ≡ true
-passes_by p y ys x true is h later = ap p (sym (some_same y x h)) ∙ is
-passes_by p y ys x false is h later = later h
-
-found_passes : {A : Type 0} (p : A → Bool) (xs : List A) (x : A) → find p xs ≡ Some x → p x ≡ true
-found_passes p [] x h = absurd (grind (arith, h))
-found_passes p (y ∷ ys) x h = passes_by p y ys x (p y) refl h (found_passes p ys x)
 
 pub found_seat : (seat : Seat) (job : Job) (jobs : List Job) → job_of seat jobs ≡ Some job → seat ≡ job.seat
 found_seat seat job jobs h = seat_is seat job.seat (found_passes (λ (j : Job). is_seat seat j.seat) jobs job h)
