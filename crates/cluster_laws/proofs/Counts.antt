@@ -39,26 +39,30 @@ pub none_of_both : {A : Type 0} (p : A → Bool) (xs : List A) → filter p (fil
 none_of_both p [] = refl
 none_of_both p (x ∷ xs) = grind (arith, none_of_both p xs)
 
-put_same : (u : Owner) (x : Usage) (all : List Usage) → x.owner ≡ u → usage_of u (put (λ y. is_owner u y.owner) x all) ≡ x
+pub put_same : (u : Owner) (x : Usage) (all : List Usage) → x.owner ≡ u → usage_of u (put (λ y. is_owner u y.owner) x all) ≡ x
 put_same u x all is =
     by_head u (put (λ y. is_owner u y.owner) x all)
     ∙ ap (λ (xs : List Usage). usage_or u (head_of xs)) (push_own (λ (y : Usage). is_owner u y.owner) x (ap (is_owner u) is ∙ owner_refl u) (filter (λ y. not (is_owner u y.owner)) all) ∙ ap (λ (xs : List Usage). xs ++ x ∷ []) (none_of_both (λ (y : Usage). is_owner u y.owner) all))
 
-put_else : (u o : Owner) (x : Usage) (all : List Usage) → x.owner ≡ o → is_owner u o ≡ false → usage_of u (put (λ y. is_owner o y.owner) x all) ≡ usage_of u all
+pub put_else : (u o : Owner) (x : Usage) (all : List Usage) → x.owner ≡ o → is_owner u o ≡ false → usage_of u (put (λ y. is_owner o y.owner) x all) ≡ usage_of u all
 put_else u o x all is other =
     by_head u (put (λ y. is_owner o y.owner) x all)
     ∙ (ap (λ (xs : List Usage). usage_or u (head_of xs)) (put_other (λ (y : Usage). is_owner u y.owner) (λ (y : Usage). is_owner o y.owner) x (ap (is_owner u) is ∙ other) (λ y own. owner_without u o y.owner other own) all)
     ∙ sym (by_head u all))
 
-counted_by : (u o : Owner) (x : Usage) (all : List Usage) (n : ℕ) (b : Bool) → is_owner u o ≡ b → x.owner ≡ o → x.entries ≤ n → (usage_of u all).entries ≤ n → (usage_of u (put (λ y. is_owner o y.owner) x all)).entries ≤ n
-counted_by u o x all n true own is one h = let e : u ≡ o = owner_is u o own in subst (λ (v : Owner). (usage_of v (put (λ y. is_owner o y.owner) x all)).entries ≤ n) (sym e) (subst (λ (y : Usage). y.entries ≤ n) (sym (put_same o x all is)) one)
-counted_by u o x all n false other is one h = subst (λ (y : Usage). y.entries ≤ n) (sym (put_else u o x all is other)) h
+counted_by : (P : Usage → Type 0) (u o : Owner) (x : Usage) (all : List Usage) (b : Bool) → is_owner u o ≡ b → x.owner ≡ o → P x → P (usage_of u all) → P (usage_of u (put (λ y. is_owner o y.owner) x all))
+counted_by P u o x all true own is one h = let e : u ≡ o = owner_is u o own in subst (λ (v : Owner). P (usage_of v (put (λ y. is_owner o y.owner) x all))) (sym e) (subst P (sym (put_same o x all is)) one)
+counted_by P u o x all false other is one h = subst P (sym (put_else u o x all is other)) h
+
+-- what holds of each owner's count holds still, where it holds of the new one
+pub counted_has : (P : Usage → Type 0) (u o : Owner) (free : Bool) (bytes : ℕ) (all : List Usage) → (free ≡ false → P record { owner = o; entries = (usage_of o all).entries + 1; charges = (usage_of o all).charges + bytes }) → P (usage_of u all) → P (usage_of u (counted o free bytes all))
+counted_has P u o true bytes all one h = h
+counted_has P u o false bytes all one h = counted_by P u o (record { owner = o; entries = (usage_of o all).entries + 1; charges = (usage_of o all).charges + bytes }) all (is_owner u o) refl refl (one refl) h
 
 counted_within : (u o : Owner) (free : Bool) (bytes : ℕ) (all : List Usage) (n : ℕ) → (free ≡ false → (usage_of o all).entries + 1 ≤ n) → (usage_of u all).entries ≤ n → (usage_of u (counted o free bytes all)).entries ≤ n
-counted_within u o true bytes all n one h = h
-counted_within u o false bytes all n one h = counted_by u o (record { owner = o; entries = (usage_of o all).entries + 1; charges = (usage_of o all).charges + bytes }) all n (is_owner u o) refl refl (one refl) h
+counted_within u o free bytes all n one h = counted_has (λ x. x.entries ≤ n) u o free bytes all one h
 
-not_full : (n m : ℕ) (free other : Bool) → (free || not (nat_le n m || other)) ≡ true → free ≡ false → m + 1 ≤ n
+pub not_full : (n m : ℕ) (free other : Bool) → (free || not (nat_le n m || other)) ≡ true → free ≡ false → m + 1 ≤ n
 not_full n m true other h k = absurd (grind (arith, k))
 not_full n m false other h k = grind (arith, nat_tests, h)
 
@@ -69,12 +73,12 @@ asked_within : (k : Site) (c : Cluster) (seat : Seat) (ask : Ask) (f : Faults) (
 asked_within k c seat ask f (Some r) may w u = counted_within u seat.owner (is_free c.jobs seat ask) _ c.usage k.setup.limits.commands (not_full _ _ (is_free c.jobs seat ask) _ (unless_none _ (OWNERFULL Commands) may)) (w u)
 asked_within k c seat ask f None may w u = counted_within u seat.owner (is_free c.jobs seat ask) _ c.usage k.setup.limits.commands (not_full _ _ (is_free c.jobs seat ask) _ (unless_none _ (OWNERFULL Commands) may)) (w u)
 
-finish_within : (k : Site) (c : Cluster) (id : BatchId) (n : ℕ) (result : BatchResult) (f : Faults) (o w : Bool) → still_open n (row_of id c.table) ≡ o → nat_le f.after f.before ≡ w → (step k c (Finished id n result) f).next.usage ≡ c.usage
+pub finish_within : (k : Site) (c : Cluster) (id : BatchId) (n : ℕ) (result : BatchResult) (f : Faults) (o w : Bool) → still_open n (row_of id c.table) ≡ o → nat_le f.after f.before ≡ w → (step k c (Finished id n result) f).next.usage ≡ c.usage
 finish_within k c id n result f false w h g = rw h refl
 finish_within k c id n result f true true h g = rw (h, g) refl
 finish_within k c id n result f true false h g = rw (h, g) refl
 
-left_within : (k : Site) (c : Cluster) (id : BatchId) (n : ℕ) (f : Faults) (o : Bool) → still_open n (row_of id c.table) ≡ o → (step k c (Left id n) f).next.usage ≡ c.usage
+pub left_within : (k : Site) (c : Cluster) (id : BatchId) (n : ℕ) (f : Faults) (o : Bool) → still_open n (row_of id c.table) ≡ o → (step k c (Left id n) f).next.usage ≡ c.usage
 left_within k c id n f false h = rw h refl
 left_within k c id n f true h = rw h refl
 

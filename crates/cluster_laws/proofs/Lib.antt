@@ -1,6 +1,8 @@
 pub mod Allowed
 pub mod BatchOrder
 pub mod Beliefs
+pub mod Bounded
+pub mod Charged
 pub mod Counts
 pub mod Ends
 pub mod Faults
@@ -34,5 +36,6 @@ pub mod Staying
 pub mod Store
 pub mod Sums
 pub mod TakenRecords
+pub mod Uses
 pub mod Waiters
 pub mod Weights

@@ -98,7 +98,7 @@ pub record Stays (k : Site) (c d : Cluster) : Type 0 where
 as_before : (k : Site) (c d : Cluster) → d.table ≡ c.table → d.journal ≡ c.journal → IsKeyed c.table → Fits k c → Stays k c d
 as_before k c d table end o fits = record { ordered = subst IsKeyed (sym table) o; fits = let e = ap reserve table in omega (arith, e, end, fits); rises = omega (arith, end) }
 
-event_stays : (k : Site) (event : Option Event) (c d : Cluster) → Tells k event c d → (more : List Event) → AreShort k (option_to_list event ++ more) → IsKeyed c.table → Fits k c → Stays k c d × AreShort k more
+pub event_stays : (k : Site) (event : Option Event) (c d : Cluster) → Tells k event c d → (more : List Event) → AreShort k (option_to_list event ++ more) → IsKeyed c.table → Fits k c → Stays k c d × AreShort k more
 event_stays k None c d tells more short o fits = (as_before k c d tells.0 tells.1 o fits, short)
 event_stays k (Some (was_kept r)) c d tells more short o fits =
     let n = record_fits k c r tells.0 tells.1 o short.0 fits in

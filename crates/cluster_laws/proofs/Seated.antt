@@ -135,7 +135,7 @@ left_none : (s : Seat) (jobs : List Job) → jobs_for s (without_job s jobs) ≡
 left_none s [] = refl
 left_none s (j ∷ jobs) = grind (arith, left_none s jobs)
 
-other_seat : (s seat x : Seat) → is_seat s seat ≡ false → is_seat s x ≡ true → is_seat seat x ≡ false
+pub other_seat : (s seat x : Seat) → is_seat s seat ≡ false → is_seat s x ≡ true → is_seat seat x ≡ false
 other_seat s seat x other own = bool_off (is_seat seat x) (λ h. let e = seat_is seat x h in let k : is_seat s seat ≡ true = ap (is_seat s) e ∙ own in grind (arith, k, other))
 
 left_else : (seat s : Seat) (jobs : List Job) → is_seat s seat ≡ false → jobs_for s (without_job seat jobs) ≡ jobs_for s jobs
