@@ -1,34 +1,3 @@
-pub mod Allowed
-pub mod BatchOrder
-pub mod Beliefs
-pub mod Counts
-pub mod Histories
-pub mod HistoryLooks
-pub mod Journals
-pub mod Listings
-pub mod Lists
-pub mod Lives
-pub mod Numbered
-pub mod OwnCommands
-pub mod OwnDeeds
-pub mod OwnEffects
-pub mod OwnLooks
-pub mod OwnPlaces
-pub mod Records
-pub mod Results
-pub mod Room
-pub mod Rule
-pub mod Running
 pub mod Scenes
-pub mod Seated
-pub mod Settling
-pub mod Sound
-pub mod SoundCommands
-pub mod SoundOpenings
-pub mod SoundSteps
-pub mod Standing
-pub mod Store
-pub mod TakenRecords
-pub mod Waiters
 mod WorkedBatches
 mod WorkedJobs

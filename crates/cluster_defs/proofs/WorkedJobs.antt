@@ -102,23 +102,30 @@ failing : IsTold (site 2 1 0) (
 unfolding is_owner is_id is_seat is_node
 failing = refl
 
--- Jobs are listed by seat number, then by owner, not by their coming, and then the batches; a lost job no longer.
+-- Jobs are listed by seat number, then by owner, not by their coming, and then the batches, by owner and number; a lost job no
+-- longer.
 listed : IsTold (site 2 1 0) (
     ask (seat 1 bob) (asks.Job (pos 0)) (job (seat 1 bob) 1 1 ∷ []) (tells.Job 1 (Some (node 1)))
     ∷ ask (seat 1 ada) (asks.Job (pos 7)) (job (seat 1 ada) 1 2 ∷ []) (tells.Job 1 (Some (node 2)))
     ∷ ask (seat 2 bob) (asks.Create body) [] (tells.Made (batch bob 1))
     ∷ ask (seat 2 ada) (asks.Create body) [] (tells.Made (batch ada 1))
+    ∷ ask (seat 2 bob) (asks.Create body) [] (tells.Made (batch bob 2))
+    ∷ ask (seat 2 ada) (asks.Create body) [] (tells.Made (batch ada 2))
     ∷ ask admin asks.Jobs [] (tells.Jobs (
     record { waiter = waits.Seat record { seat = seat 1 ada; number = 1 }; owner = ada; priority = pos 7; node = Some (node 2) }
     ∷ record { waiter = waits.Seat record { seat = seat 1 bob; number = 1 }; owner = bob; priority = pos 0; node = Some (node 1) }
     ∷ record { waiter = waits.Batch (batch ada 1) 1; owner = ada; priority = pos 0; node = None }
+    ∷ record { waiter = waits.Batch (batch ada 2) 1; owner = ada; priority = pos 0; node = None }
     ∷ record { waiter = waits.Batch (batch bob 1) 1; owner = bob; priority = pos 0; node = None }
+    ∷ record { waiter = waits.Batch (batch bob 2) 1; owner = bob; priority = pos 0; node = None }
     ∷ []))
     ∷ ask admin (asks.Fail (node 2)) [] tells.Done
     ∷ ask admin asks.Jobs [] (tells.Jobs (
     record { waiter = waits.Seat record { seat = seat 1 bob; number = 1 }; owner = bob; priority = pos 0; node = Some (node 1) }
     ∷ record { waiter = waits.Batch (batch ada 1) 1; owner = ada; priority = pos 0; node = None }
+    ∷ record { waiter = waits.Batch (batch ada 2) 1; owner = ada; priority = pos 0; node = None }
     ∷ record { waiter = waits.Batch (batch bob 1) 1; owner = bob; priority = pos 0; node = None }
+    ∷ record { waiter = waits.Batch (batch bob 2) 1; owner = bob; priority = pos 0; node = None }
     ∷ []))
     ∷ refused admin (asks.AbortJob 1 2) NOJOB
     ∷ ask admin (asks.AbortJob 1 1) [] tells.Done

@@ -4,8 +4,10 @@ pub mod Asking
 pub mod Asks
 pub mod Charges
 pub mod Cluster
+pub mod Counted
 pub mod Deeds
 pub mod Effects
+pub mod Ends
 pub mod Entries
 pub mod Journal
 pub mod Legal
@@ -17,15 +19,12 @@ pub mod Own
 pub mod OwnHistory
 pub mod Part
 pub mod Placement
-pub mod Places
 pub mod Plain
 pub mod Reading
 pub mod Refusals
 pub mod Replies
 pub mod Room
-pub mod Seated
 pub mod Site
-pub mod Sound
 pub mod Step
 pub mod Store
 pub mod Told

@@ -8,6 +8,7 @@ use Rattle.table_defs.specs.Taken.{refusal}
 use Rattle.cluster_defs.specs.Appended.{record_of}
 use Rattle.cluster_defs.specs.Cluster.{Cluster}
 use Rattle.cluster_defs.specs.Deeds.{Asked, Deed, Disk, Finished, Kept, Left, Took}
+use Rattle.cluster_defs.specs.Ends.{end_of}
 use Rattle.cluster_defs.specs.Entries as answers
 use Rattle.cluster_defs.specs.Entries.{Entry, EntryReply, faults_of}
 use Rattle.cluster_defs.specs.Journal.{Becomes, Event, Journal, none_yet, table_behind, was_failed, was_kept, was_not_opened, was_opened}
@@ -94,10 +95,11 @@ onto [] events = events
 onto (event ∷ more) events = onto more (event ∷ events)
 
 -- A store from the empty disk on. Its events, the latest first, and its journal. What an opening finds is all that is kept of
--- what was before, or that with the record in doubt; its history is any legal one from the table of this.
+-- what was before, or that with the record in doubt; it begins where this ends, and its history is any legal one from the table
+-- of this.
 pub data Life (k : Site) : List Event → Journal → Type 0 where
   untouched : Life k [] none_yet
   opened_in_vain : {events : List Event} {j : Journal} (next : Journal) → Life k events j → Becomes was_not_opened j next → Life k (was_not_opened ∷ events) next
-  lived : {events : List Event} {j : Journal} (first last next : Journal) (o : Opening) → Life k events j → Becomes was_opened j first → IsLegal k (table_behind first) o.end o.faults o.history o.returned
+  lived : {events : List Event} {j : Journal} (first last next : Journal) (o : Opening) → Life k events j → Becomes was_opened j first → o.end ≡ end_of k first.records → IsLegal k (table_behind first) o.end o.faults o.history o.returned
       → IfSome o.under_way (MayHappen k (cluster_at k (table_behind first) o)) → Brings (events_of k (table_behind first) o) first last → Brings (option_to_list (stopped_in k (cluster_at k (table_behind first) o) o.under_way)) last next
       → Life k (onto (option_to_list (stopped_in k (cluster_at k (table_behind first) o) o.under_way)) (onto (events_of k (table_behind first) o) (was_opened ∷ events))) next

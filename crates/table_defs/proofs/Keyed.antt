@@ -65,7 +65,7 @@ pub keyed_from : (rs : List BatchRecord) (t : Table) → first_refusal rs t ≡ 
 keyed_from [] t taken o = o
 keyed_from (r ∷ rs) t taken o = keyed_from rs (applied r t) (or_then (refusal r t) (first_refusal rs (applied r t)) taken) (keyed_kept r t (or_first (refusal r t) (first_refusal rs (applied r t)) taken) o)
 
-none_keyed : IsKeyed no_rows
+pub none_keyed : IsKeyed no_rows
 none_keyed = record { numbered = no_rows_numbered; single = λ id. omega arith }
 
 pub keyed_after : (rs : List BatchRecord) → first_refusal rs no_rows ≡ None → IsKeyed (after rs no_rows)

@@ -1,0 +1,5 @@
+pub mod Bounds
+pub mod Places
+pub mod Seated
+pub mod Sound
+pub mod Staying
