@@ -96,7 +96,7 @@ module _ {X : Type 0} (name_of : X → List ℕ) (name : List ℕ) where
       let one : suc r ≡ 1 + r = omega arith in
       subst (λ (n : ℕ). named (get_or (x ∷ xs) n d) ≡ true) one (k refl)
 
-  named_first : (xs : List X) (d : X) → list_any named xs ≡ true → named (get_or xs (first_named xs) d) ≡ true
+  pub named_first : (xs : List X) (d : X) → list_any named xs ≡ true → named (get_or xs (first_named xs) d) ≡ true
   named_first [] d any = absurd cc
   named_first (x ∷ xs) d any =
       named_step (named x) (first_named xs) x d xs refl

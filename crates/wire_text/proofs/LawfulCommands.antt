@@ -26,7 +26,7 @@ use Rattle.wire_text.specs.declared.verb.Verb.TheVariants.{Batch, BStatus, Bye, 
 use Rattle.wire_text.specs.declared.verb.ChangeVerb.TheVariants as change
 use Rattle.wire_text.specs.declared.verb.Query.TheVariants as query
 
-ok_is : {A : Type 0} (x y : A) → ◌≡◌ {A = Result A Refusal} (Ok x) (Ok y) → x ≡ y
+pub ok_is : {A : Type 0} (x y : A) → ◌≡◌ {A = Result A Refusal} (Ok x) (Ok y) → x ≡ y
 ok_is x y h = cc
 
 -- A finite bound is below 10 ^ 20 in size.
@@ -43,7 +43,7 @@ bound_told-near (Err NotNumber) x h = absurd cc
 bound_told-near (Err (TooWide negative true)) x h = absurd cc
 bound_told-near (Err (TooWide negative false)) x h = absurd cc
 
-bound_of-near : (word : List ℕ) (x : Fraction) → bound_of word ≡ Ok (finite x) → IsBelowBoundSize x
+pub bound_of-near : (word : List ℕ) (x : Fraction) → bound_of word ≡ Ok (finite x) → IsBelowBoundSize x
 bound_of-near word x h = by_words (list_any (bytes_eq word) (codes "inf" ∷ codes "infinity" ∷ [])) (list_any (bytes_eq word) (codes "-inf" ∷ codes "-infinity" ∷ [])) h
   where
     by_words : (above below : Bool) → (if above then Ok (infinite false) else (if below then Ok (infinite true) else bound_told (reading word))) ≡ Ok (finite x) → IsBelowBoundSize x
@@ -51,19 +51,20 @@ bound_of-near word x h = by_words (list_any (bytes_eq word) (codes "inf" ∷ cod
     by_words false true h = absurd cc
     by_words false false h = bound_told-near (reading word) x h
 
-lower_told-near : (found : Result Bound Refusal) (v : Option Fraction) → ((x : Fraction) → found ≡ Ok (finite x) → IsBelowBoundSize x) → lower_told found ≡ Ok v → IfSome v IsBelowBoundSize
-lower_told-near (Ok (finite x)) v near h = subst (λ o. IfSome o IsBelowBoundSize) (ok_is (Some x) v h) (near x refl)
-lower_told-near (Ok (infinite true)) v near h = subst (λ o. IfSome o IsBelowBoundSize) (ok_is None v h) tt
-lower_told-near (Ok (infinite false)) v near h = absurd cc
-lower_told-near (Err refusal) v near h = absurd cc
+-- what holds of each finite bound that was found holds of a bound that is told
+pub lower_told-finite : (P : Fraction → Type 0) (found : Result Bound Refusal) (v : Option Fraction) → ((x : Fraction) → found ≡ Ok (finite x) → P x) → lower_told found ≡ Ok v → IfSome v P
+lower_told-finite P (Ok (finite x)) v holds h = subst (λ o. IfSome o P) (ok_is (Some x) v h) (holds x refl)
+lower_told-finite P (Ok (infinite true)) v holds h = subst (λ o. IfSome o P) (ok_is None v h) tt
+lower_told-finite P (Ok (infinite false)) v holds h = absurd cc
+lower_told-finite P (Err refusal) v holds h = absurd cc
 
-upper_told-near : (found : Result Bound Refusal) (v : Option Fraction) → ((x : Fraction) → found ≡ Ok (finite x) → IsBelowBoundSize x) → upper_told found ≡ Ok v → IfSome v IsBelowBoundSize
-upper_told-near (Ok (finite x)) v near h = subst (λ o. IfSome o IsBelowBoundSize) (ok_is (Some x) v h) (near x refl)
-upper_told-near (Ok (infinite true)) v near h = absurd cc
-upper_told-near (Ok (infinite false)) v near h = subst (λ o. IfSome o IsBelowBoundSize) (ok_is None v h) tt
-upper_told-near (Err refusal) v near h = absurd cc
+pub upper_told-finite : (P : Fraction → Type 0) (found : Result Bound Refusal) (v : Option Fraction) → ((x : Fraction) → found ≡ Ok (finite x) → P x) → upper_told found ≡ Ok v → IfSome v P
+upper_told-finite P (Ok (finite x)) v holds h = subst (λ o. IfSome o P) (ok_is (Some x) v h) (holds x refl)
+upper_told-finite P (Ok (infinite true)) v holds h = absurd cc
+upper_told-finite P (Ok (infinite false)) v holds h = subst (λ o. IfSome o P) (ok_is None v h) tt
+upper_told-finite P (Err refusal) v holds h = absurd cc
 
-tag_is : (word v : List ℕ) (b : Bool) → is_tag word ≡ b → (if b then Ok word else Err LINE) ≡ Ok v → IsTag v
+pub tag_is : (word v : List ℕ) (b : Bool) → is_tag word ≡ b → (if b then Ok word else Err LINE) ≡ Ok v → IsTag v
 tag_is word v true is h = subst IsTag (ok_is word v h) is
 tag_is word v false is h = absurd cc
 
@@ -71,7 +72,7 @@ size_is : (n : ℕ) (b : Bool) → nat_le n BLOCK_LIMIT ≡ b → IfSome (if b t
 size_is n true is = grind (arith, nat_tests)
 size_is n false is = tt
 
-size_told : (n : Option ℕ) (v : Option ℕ) → or_line (option_map block_size n) ≡ Ok v → IfSome v (λ k. k ≤ BLOCK_LIMIT)
+pub size_told : (n : Option ℕ) (v : Option ℕ) → or_line (option_map block_size n) ≡ Ok v → IfSome v (λ k. k ≤ BLOCK_LIMIT)
 size_told None v h = absurd cc
 size_told (Some n) v h = subst (λ o. IfSome o (λ k. k ≤ BLOCK_LIMIT)) (ok_is (block_size n) v h) (size_is n (nat_le n BLOCK_LIMIT) refl)
 
@@ -90,8 +91,8 @@ IsTold parameter v = Unit {0}
 IsTold batch v = Unit {0}
 
 told-is : (argument : Kind) (word : List ℕ) (v : Value argument) → told argument word ≡ Ok v → IsTold argument v
-told-is lower word v h = lower_told-near (bound_of word) v (bound_of-near word) h
-told-is upper word v h = upper_told-near (bound_of word) v (bound_of-near word) h
+told-is lower word v h = lower_told-finite IsBelowBoundSize (bound_of word) v (bound_of-near word) h
+told-is upper word v h = upper_told-finite IsBelowBoundSize (bound_of word) v (bound_of-near word) h
 told-is tag word v h = tag_is word v (is_tag word) refl h
 told-is size word v h = size_told (number_of word) v h
 told-is name word v h = tt

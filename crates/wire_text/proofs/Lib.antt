@@ -1,7 +1,7 @@
 mod Answered
 mod Blocks
-mod LawfulCommands
-mod LineCuts
+pub mod LawfulCommands
+pub mod LineCuts
 mod OneForm
 mod Pairs
-mod Verbs
+pub mod Verbs

@@ -8,7 +8,7 @@ use Rattle.std.proofs.lemmas.List.Elements.{All-head, All-tail}
 use Rattle.std.proofs.lemmas.List.Splits.{slice_split-cons_yes, slice_split_at, slice_split_none}
 use Rattle.wire_text.specs.Line.{is_blank, is_word, words_of}
 
-words_of-blank : (byte : ℕ) (line : List ℕ) → is_blank byte ≡ true → words_of (byte ∷ line) ≡ words_of line
+pub words_of-blank : (byte : ℕ) (line : List ℕ) → is_blank byte ≡ true → words_of (byte ∷ line) ≡ words_of line
 words_of-blank byte line blank = ap (filter is_word) (slice_split-cons_yes is_blank byte line blank)
 
 -- blanks at the front count for nothing
@@ -18,7 +18,7 @@ words_of-blanks (byte ∷ blanks) line all =
     words_of-blank byte (blanks ++ line) (All-head (λ byte. is_blank byte ≡ true) byte blanks all) ∙ words_of-blanks blanks line (All-tail (λ byte. is_blank byte ≡ true) byte blanks all)
 
 -- a longest run of bytes that are no blanks is the first word
-words_of-word : (byte : ℕ) (bytes rest : List ℕ) → All (λ byte. is_blank byte ≡ false) (byte ∷ bytes) → (0 < length rest → is_blank (slice_index rest 0) ≡ true) → words_of ((byte ∷ bytes) ++ rest) ≡ (byte ∷ bytes) ∷ words_of rest
+pub words_of-word : (byte : ℕ) (bytes rest : List ℕ) → All (λ byte. is_blank byte ≡ false) (byte ∷ bytes) → (0 < length rest → is_blank (slice_index rest 0) ≡ true) → words_of ((byte ∷ bytes) ++ rest) ≡ (byte ∷ bytes) ∷ words_of rest
 words_of-word byte bytes [] all ends =
     let whole : (byte ∷ bytes) ++ [] ≡ byte ∷ bytes = append-nil (byte ∷ bytes) in
     ap words_of whole ∙ ap (filter is_word) (slice_split_none is_blank (byte ∷ bytes) all)

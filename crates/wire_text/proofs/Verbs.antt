@@ -25,7 +25,7 @@ picked_behind : (v : Verb) (rest : List (List ℕ)) → unwrap_or (if fit (form_
 picked_behind v rest = picked (fit (form_of v).arguments rest) (made (form_of v).arguments (form_of v).makes rest)
 
 -- words that begin with a command say what those behind it say
-command_of_words-called : (v : Verb) (rest : List (List ℕ)) → command_of_words (called v ++ rest) ≡ read_behind v rest
+pub command_of_words-called : (v : Verb) (rest : List (List ℕ)) → command_of_words (called v ++ rest) ≡ read_behind v rest
 unfolding command_of_words
 command_of_words-called Read rest = picked_behind Read rest
 command_of_words-called Update rest = picked_behind Update rest
@@ -220,7 +220,7 @@ query_at-some (word ∷ words) rest v h = by_query (query_of word) refl h
         let parts = pair_is (Get q, words) (v, rest) found in
         ap (λ w. codes "GET" ∷ w ∷ words) (find-query word queries q is) ∙ (ap (λ ws. called (Get q) ++ ws) parts.1 ∙ ap (λ u. called u ++ rest) parts.0)
 
-verb_at-some : (words rest : List (List ℕ)) (v : Verb) → verb_at words ≡ Some (v, rest) → words ≡ called v ++ rest
+pub verb_at-some : (words rest : List (List ℕ)) (v : Verb) → verb_at words ≡ Some (v, rest) → words ≡ called v ++ rest
 verb_at-some [] rest v h = absurd cc
 verb_at-some (word ∷ words) rest v h = by_word (bytes_eq word (codes "GET")) refl h
   where

@@ -1,0 +1,5 @@
+mod Bytes
+mod Lines
+mod Told
+mod Verbs
+mod Words
