@@ -10,6 +10,7 @@ pub mod Bridge
 pub mod ByIndex
 pub mod ByRule
 pub mod Ending
+pub mod ExactSteps
 pub mod FirstStep
 pub mod FormEnds
 pub mod KeptForm
