@@ -4,9 +4,10 @@ use Rattle.std.proofs.lemmas.Bool.{cases_eq}
 use Rattle.std.proofs.lemmas.Int.{ints}
 use Rattle.frac128.specs.Fraction.{Fraction, negation, one_value, zero_value}
 use Rattle.frac128.specs.Order.{IsAtMost, IsBelow}
-use Rattle.frac128.proofs.Field.{exact_product-one_right, exact_sum-zero_left, exact_sum-zero_right, exact_sum_assoc}
+use Rattle.frac128.specs.Lowest.{IsInLowestTerms}
+use Rattle.frac128.proofs.Field.{apart_of-one, exact_product-one_right, exact_sum-zero_left, exact_sum-zero_right, exact_sum_assoc}
 use Rattle.frac128.proofs.Ordered.{IsAtMost-negation, IsAtMost-self, IsBelow-not}
-use Rattle.frac128.proofs.Kept.{IsKept-one}
+use Rattle.frac128.proofs.Sums.{minus, minus-minus, minus-sum, minus_is, sum-minus, ◌⊕◌}
 use Rattle.dictionary.specs.Dictionary.{Dictionary, entry}
 use Rattle.dictionary.specs.Rule.{entering_column}
 use Rattle.dictionary.specs.Solutions.{IsLawful, IsPhaseOne, Point, Solves, own_point, total_at}
@@ -16,11 +17,6 @@ use Rattle.dictionary.proofs.Points.FreeRise.{along, along-basic, along-columns,
 use Rattle.dictionary.proofs.Points.Lawful.{IsWide}
 use Rattle.dictionary.proofs.Points.OwnPoint.{constant-wide, own_columns-none, own_point-basic, own_point-nonbasic, own_point-solves}
 use Rattle.dictionary.proofs.Points.PhaseOne.{auxiliary_all}
-use Rattle.frac128.specs.Lowest.{IsInLowestTerms}
-use Rattle.frac128.proofs.Sums.{minus, minus-minus, minus-sum, minus_is, sum-minus, ◌⊕◌}
-
-pub IsReduced-one : IsInLowestTerms one_value
-IsReduced-one = IsKept-one.nothing_in_common
 
 one_at_least : IsAtMost zero_value one_value
 one_at_least = record { at_most = omega (arith, ints) }
@@ -51,7 +47,7 @@ w_column j d w lawful phase is_w within =
     let wide = w_wide d w lawful is_w in
     let low = entry_reduced j d w wide (auxiliary_all (All IsInLowestTerms) d w lawful.reduced.auxiliary is_w) within in
     ap (λ s. entry w 0 ⊕ s) (sym (along-columns j one_value d w lawful within wide ∙ exact_product-one_right (entry w (suc j)) low))
-    ∙ w_at d w (along j one_value d) phase is_w (along-solves j one_value d lawful within IsReduced-one)
+    ∙ w_at d w (along j one_value d) phase is_w (along-solves j one_value d lawful within apart_of-one)
 
 -- ---- where the artificial variable is nonbasic
 

@@ -1,18 +1,21 @@
 -- A relaxation's weights, brought back to the model, bound or empty a leaf of a certificate.
 use Rattle.std.proofs.Common.{◌≡◌, ◌∙◌, refl, sym, ap, ap₂, subst, suc, List, [], ◌∷◌, length, map, replicate, Ok, arith}
 use Rattle.std.proofs.lemmas.List.{length-map}
+use Rattle.std.proofs.lemmas.List.Sums.{sum_by-cons}
 use Rattle.frac128.specs.Fraction.{Fraction, negation, zero_value}
 use Rattle.frac128.specs.Order.{IsAtMost}
+use Rattle.frac128.specs.Lowest.{IsInLowestTerms}
 use Rattle.frac128.proofs.Field.{apart_of-sum, exact_product-zero_left, exact_sum-zero_left, negation-sum}
-use Rattle.std.proofs.lemmas.List.Sums.{sum_by-cons}
 use Rattle.frac128.proofs.Ordered.{IsBelow_trans_right}
-use Rattle.dictionary.specs.declared.standard.Std.{Std}
+use Rattle.frac128.proofs.Chains.{same_ok, through}
+use Rattle.frac128.proofs.Sums.{no_zeros, ◌⊕◌, ◌⊗◌}
 use Rattle.model_data.specs.Lawful.{IsLawful}
 use Rattle.model_data.specs.declared.model.Direction.{Direction}
 use Rattle.model_data.specs.declared.model.Direction.TheVariants.{Maximize, Minimize}
 use Rattle.model_data.specs.declared.model.Model.{Model}
 use Rattle.model_data.specs.declared.model.Var.{Var}
 use Rattle.model_data.specs.declared.solution.Weights.{Weights}
+use Rattle.dictionary.specs.declared.standard.Std.{Std}
 use Rattle.solve_defs.specs.Columns.{columns_sum}
 use Rattle.solve_defs.specs.LeafWeights.{no_coefs, objective_to_maximize}
 use Rattle.solve_defs.specs.Relaxations.{BoundBy, Emptied}
@@ -20,32 +23,18 @@ use Rattle.solve_defs.specs.StandardForm.{Shape, column_count, entries, free, mi
 use Rattle.solve_defs.specs.Values.{turned}
 use Rattle.solve_defs.specs.declared.cut.Cut.{Cut}
 use Rattle.solve_defs.specs.declared.solving.Duals.{Duals}
-use Rattle.solve_defs.proofs.FormLists.{Each, each_from_all}
-use Rattle.solve_defs.proofs.FormPoints.{length-effective_bounds, objective_coefs}
-use Rattle.solve_defs.proofs.FormRows.{IsRising}
+use Rattle.solve_defs.proofs.FormPoints.{objective_coefs}
 use Rattle.solve_defs.proofs.FormSums.{columns_sum-negation, offsets}
-use Rattle.solve_defs.proofs.FormValues.{Parts, constant_value, length-entries, parts}
+use Rattle.solve_defs.proofs.FormValues.{constant_value, parts}
+use Rattle.solve_defs.proofs.FormLaw.{rises}
+use Rattle.solve_defs.proofs.FormSizes.{length-obj, length-shapes_of}
 use Rattle.relaxation_laws.specs.FormEnds.{ShowsBest, ShowsNoPoint}
 use Rattle.relaxation_laws.specs.FormWeights.{Prices}
 use Rattle.relaxation_laws.proofs.BackLeaf.{combines, side_is}
 use Rattle.relaxation_laws.proofs.BackLooks.{same_at_most}
 use Rattle.relaxation_laws.proofs.BackSums.{Given, lows_of, ups_of}
-use Rattle.frac128.proofs.Chains.{same_ok, through}
-use Rattle.frac128.proofs.Sums.{no_zeros, ◌⊕◌, ◌⊗◌}
-use Rattle.frac128.specs.Lowest.{IsInLowestTerms}
 
 -- ---- the model's rows and columns
-
-pub rising_rows : (m : Model) → IsLawful m → Each (λ row. IsRising row.terms) m.rows
-rising_rows m lawful = each_from_all (λ row. IsRising row.terms) m.rows (λ k d within. let row = lawful.rows k d within in row.rising)
-
-pub shapes_long : (m : Model) (cuts : List Cut) → length m.vars ≡ length (shapes_of m cuts)
-shapes_long m cuts = sym (length-map _ _ ∙ length-effective_bounds m cuts)
-
-pub obj_long : (m : Model) (cuts : List Cut) (s : Std) → Parts m cuts s → length s.obj ≡ column_count (shapes_of m cuts)
-obj_long m cuts s p =
-    ap length (sym p.form_obj) ∙ length-map (entries (shapes_of m cuts) (objective_coefs m)) (turned m.direction)
-    ∙ length-entries (shapes_of m cuts) (objective_coefs m) (length-map m.vars (λ v. v.obj) ∙ shapes_long m cuts)
 
 -- ---- the direction turns all alike
 
@@ -93,16 +82,16 @@ bound_given m cuts s value weights ws lawful form shows rows =
     let is_objs = turned_objs d m.vars in
     record {
       parts = p;
-      same = length-map m.vars (λ v. turned d v.obj) ∙ shapes_long m cuts;
-      columns = obj_long m cuts s p;
+      same = length-map m.vars (λ v. turned d v.obj) ∙ length-shapes_of m cuts;
+      columns = length-obj m cuts s p;
       constant = s.constant;
       prices = subst (λ coefs. Prices s s.constant coefs weights value) (sym p.form_obj ∙ entries_turned d shapes objs ∙ ap (entries shapes) (sym is_objs)) shows.prices;
       is_constant = ap (λ c. zero_value ⊕ c) (sym p.form_constant) ∙ ap (λ z. z ⊕ turned d p.constant) (sym (turned_zero d)) ∙ sym (turned_plus d zero_value p.constant)
-          ∙ ap (turned d) (constant_value shapes m.constant m.vars p.constant (shapes_long m cuts) p.constant_is) ∙ turned_plus d m.constant (columns_sum objs (offsets shapes))
+          ∙ ap (turned d) (constant_value shapes m.constant m.vars p.constant (length-shapes_of m cuts) p.constant_is) ∙ turned_plus d m.constant (columns_sum objs (offsets shapes))
           ∙ ap (λ t. turned d m.constant ⊕ t) (sym (turned_sum d objs (offsets shapes)) ∙ ap (λ cs. columns_sum cs (offsets shapes)) (sym is_objs));
       at_least_zero = shows.at_least_zero;
       rows = rows;
-      rising = rising_rows m lawful;
+      rising = rises m lawful;
     }
 
 -- ---- nothing
@@ -131,17 +120,17 @@ farkas_given : (m : Model) (cuts : List Cut) (s : Std) (side : Fraction) (weight
 farkas_given m cuts s side weights ws lawful form shows rows =
     let p = parts m cuts s form in
     let shapes = shapes_of m cuts in
-    let columns = obj_long m cuts s p in
+    let columns = length-obj m cuts s p in
     record {
       parts = p;
-      same = length-map m.vars (λ _. zero_value) ∙ shapes_long m cuts;
+      same = length-map m.vars (λ _. zero_value) ∙ length-shapes_of m cuts;
       columns = columns;
       constant = zero_value;
-      prices = subst (λ coefs. Prices s zero_value coefs weights side) (ap (λ n. replicate n zero_value) columns ∙ no_entries m.vars shapes (shapes_long m cuts)) shows.prices;
+      prices = subst (λ coefs. Prices s zero_value coefs weights side) (ap (λ n. replicate n zero_value) columns ∙ no_entries m.vars shapes (length-shapes_of m cuts)) shows.prices;
       is_constant = ap (λ t. zero_value ⊕ t) (sym (no_sum m.vars (offsets shapes)));
       at_least_zero = shows.at_least_zero;
       rows = rows;
-      rising = rising_rows m lawful;
+      rising = rises m lawful;
     }
 
 -- ---- weights that are brought back

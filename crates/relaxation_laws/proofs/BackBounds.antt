@@ -1,11 +1,15 @@
 -- The form's rows of variables and its columns, with their weights, are the bounds with the weights that are brought back.
 use Rattle.std.proofs.Common.{◌≡◌, ◌∙◌, refl, sym, ap, ap₂, subst, ℕ, suc, ◌+◌, ◌<◌, List, [], ◌∷◌, ◌++◌, length, drop, replicate, slice_set, All, Some, None, Result, Ok, Err, arith}
 use Rattle.std.proofs.lemmas.List.Sums.{sum_by-cons}
+use Rattle.std.proofs.lemmas.List.Elements.{All-cons, All-head, All-nil, All-tail}
 use Rattle.frac128.specs.Checked.{checked_difference, ◌>>=◌}
 use Rattle.frac128.specs.declared.operations.Wide.{Wide}
 use Rattle.frac128.specs.Fraction.{Fraction, negation, one_value, zero_value}
+use Rattle.frac128.specs.Lowest.{IsInLowestTerms}
 use Rattle.frac128.proofs.Field.{apart_of-product, apart_of-sum, apart_of-zero, exact_product-negation_right, exact_product-sum_right, exact_product-zero_left, exact_product-zero_right, exact_sum-zero_left, exact_sum-zero_right, exact_sum_comm}
 use Rattle.frac128.proofs.Kept.{IsKept-one}
+use Rattle.frac128.proofs.Sums.{minus, minus-minus, minus_is, sum-minus, sums, ◌⊕◌, ◌⊗◌}
+use Rattle.frac128.proofs.Chains.{difference_is, same_ok, through}
 use Rattle.dictionary.specs.declared.standard.StdRow.{StdRow}
 use Rattle.solve_defs.specs.Columns.{columns_sum}
 use Rattle.solve_defs.specs.StandardForm.{Shape, column_count, column_row, free, low_weights, mirrored, shifted, span_row, span_rows, up_weights, width}
@@ -14,12 +18,8 @@ use Rattle.solve_defs.proofs.FormLists.{at_drop}
 use Rattle.solve_defs.proofs.FormSums.{columns_sum_low, offsets, one_column}
 use Rattle.relaxation_laws.specs.FormWeights.{weighted}
 use Rattle.relaxation_laws.specs.LeafSums.{bound_total, lower_side, upper_side}
-use Rattle.std.proofs.lemmas.List.Elements.{All-cons, All-head, All-nil, All-tail}
 use Rattle.relaxation_laws.proofs.Lifted.{NoneFree, both_at_one, length-both, lift}
 use Rattle.relaxation_laws.proofs.Priced.{weighted_low}
-use Rattle.frac128.proofs.Sums.{minus, minus-minus, minus_is, sum-minus, sums, ◌⊕◌, ◌⊗◌}
-use Rattle.frac128.specs.Lowest.{IsInLowestTerms}
-use Rattle.frac128.proofs.Chains.{difference_is, same_ok, through}
 
 -- ---- a variable's own part, and the others'
 

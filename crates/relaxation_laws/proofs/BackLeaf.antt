@@ -1,21 +1,26 @@
 -- The weights that are brought back combine the leaf's rows and bounds to the coefficients, with the side.
-use Rattle.std.proofs.Common.{◌≡◌, ◌∙◌, ⊎_elim, refl, sym, ap, ap₂, subst, ℕ, suc, ◌+◌, ◌<◌, false, true≢false, List, [], ◌∷◌, ◌++◌, length, map, drop, All, Option, Some, None, IsTrue, Ok, arith, filter_map, option_map}
 use Rattle.std.specs.Prelude.{unwrap_or}
+use Rattle.std.proofs.Common.{◌≡◌, ◌∙◌, ⊎_elim, refl, sym, ap, ap₂, subst, ℕ, suc, ◌+◌, ◌<◌, false, true≢false, List, [], ◌∷◌, ◌++◌, length, map, drop, All, Option, Some, None, IsTrue, Ok, arith, filter_map, option_map}
 use Rattle.std.proofs.lemmas.Bool.{cases_lt}
 use Rattle.std.proofs.lemmas.List.{get_or-map, get_or_past, length-map}
 use Rattle.std.proofs.lemmas.List.Elements.{All-append, All-cons, All-map, All-nil}
 use Rattle.frac128.specs.Fraction.{Fraction, negation, zero_value}
 use Rattle.frac128.specs.Order.{IsAtMost}
+use Rattle.frac128.specs.Lowest.{IsInLowestTerms}
 use Rattle.frac128.proofs.Field.{apart_of-zero, exact_product-zero_right, exact_sum-zero_left, exact_sum_assoc, exact_sum_comm}
 use Rattle.frac128.proofs.Ordered.{IsAtMost-negation, IsAtMost-self}
-use Rattle.dictionary.specs.Dictionary.{numbers_from}
-use Rattle.dictionary.specs.declared.standard.Std.{Std}
+use Rattle.frac128.proofs.Sums.{minus, minus-sum, minus_is, of_some, total, total-append, total-filter_map, total_low, ◌⊕◌, ◌⊗◌}
+use Rattle.frac128.proofs.Chains.{same_ok, through}
 use Rattle.model_data.specs.Size.{rows_of_sense}
 use Rattle.model_data.specs.declared.model.Model.{Model}
 use Rattle.model_data.specs.declared.model.Row.{Row}
 use Rattle.model_data.specs.declared.model.Sense.{Sense}
 use Rattle.model_data.specs.declared.model.Sense.TheVariants.{Equal, Greater, Less}
 use Rattle.model_data.specs.declared.solution.Weights.{Weights}
+use Rattle.dictionary.specs.Dictionary.{numbers_from}
+use Rattle.dictionary.specs.declared.standard.Std.{Std}
+use Rattle.dictionary.proofs.Opened.{length-numbers_from}
+use Rattle.dictionary.proofs.Points.Opening.{get_or-numbers_from}
 use Rattle.solve_defs.specs.Bounds.{Bounds, effective_bounds}
 use Rattle.solve_defs.specs.Certificates.{lower_of, may_weigh_bound, may_weigh_row, may_weigh_sense, nth, row_share, share, side_of, side_steps, sign_looks, sum_steps, sums_from, terms_of, upper_of}
 use Rattle.solve_defs.specs.Columns.{columns_sum}
@@ -27,15 +32,11 @@ use Rattle.solve_defs.specs.declared.cut.Cut.{Cut}
 use Rattle.solve_defs.specs.declared.solving.Duals.{Duals}
 use Rattle.solve_defs.proofs.FormLists.{at_drop}
 use Rattle.solve_defs.proofs.LeafSums.{amount, low_side, row_side, sides, total_of-steps, up_side}
+use Rattle.solve_defs.proofs.PointValues.{at_most_shown}
 use Rattle.relaxation_laws.specs.LeafSums.{bound_total, coefficients_of, lower_side, row_total, upper_side}
-use Rattle.relaxation_laws.proofs.BackLooks.{EachItem, items_total, none_times, numbered_all, numbered_items, numbered_share, same_at_most, show_at_most, show_same}
+use Rattle.relaxation_laws.proofs.BackLooks.{EachItem, items_total, none_times, numbered_all, numbered_items, numbered_share, same_at_most, show_same}
 use Rattle.relaxation_laws.proofs.BackSums.{Given, before_spans, lows_of, row_total-same, side_back, ups_of, values_back}
-use Rattle.relaxation_laws.proofs.Bridge.{number_at}
 use Rattle.relaxation_laws.proofs.Priced.{lowest_product, unit, unit_length, unit_value}
-use Rattle.frac128.proofs.Sums.{minus, minus-sum, minus_is, of_some, total, total-append, total-filter_map, total_low, ◌⊕◌, ◌⊗◌}
-use Rattle.frac128.specs.Lowest.{IsInLowestTerms}
-use Rattle.dictionary.proofs.Opened.{length-numbers_from}
-use Rattle.frac128.proofs.Chains.{same_ok, through}
 
 -- ---- so many weights
 
@@ -94,8 +95,8 @@ row_signs place (row ∷ rows) ys ws all h =
     (by_sense_is row.sense own.value (value_at ys place) (value_at ys (suc place)) (at_place high ys place (IsAtMost-self zero_value) all) own.first, row_signs (place + rows_of_sense row.sense) rows ys others.value all others.first)
   where
     by_sense_is : (sense : Sense) (w x y : Fraction) → high x → row_weight sense x y ≡ Ok w → IsTrue (may_weigh_sense sense w)
-    by_sense_is Less w x y above e = show_at_most zero_value w (subst high (same_ok x w e) above)
-    by_sense_is Greater w x y above e = show_at_most w zero_value (subst (λ v. IsAtMost v zero_value) (same_ok (negation x) w e) (IsAtMost-negation zero_value x above))
+    by_sense_is Less w x y above e = at_most_shown zero_value w (subst high (same_ok x w e) above)
+    by_sense_is Greater w x y above e = at_most_shown w zero_value (subst (λ v. IsAtMost v zero_value) (same_ok (negation x) w e) (IsAtMost-negation zero_value x above))
     by_sense_is Equal w x y above e = refl
 
 abbrev shape_of : Bounds → Shape
@@ -109,7 +110,7 @@ low_signs column [] reduced all = tt
 low_signs column (b ∷ bounds) reduced all = (own b.lower b.upper (at_place high reduced column (IsAtMost-self zero_value) all), low_signs (column + width (shape_of b)) bounds reduced all)
   where
     own : (lower upper : Option Fraction) {x : Fraction} → high x → is_zero (low_weight (shape_between lower upper) x) ≡ false → IsTrue (may_weigh_bound lower (low_weight (shape_between lower upper) x))
-    own (Some l) upper {x = x} above some = show_at_most zero_value x above
+    own (Some l) upper {x = x} above some = at_most_shown zero_value x above
     own None (Some u) above some = none_is some
     own None None above some = none_is some
 
@@ -120,9 +121,9 @@ up_signs place column (b ∷ bounds) ys reduced all also =
     (own b.lower b.upper (at_place high reduced column (IsAtMost-self zero_value) also) (at_place high ys place (IsAtMost-self zero_value) all), up_signs (place + spans_of (shape_of b)) (column + width (shape_of b)) bounds ys reduced all also)
   where
     own : (lower upper : Option Fraction) {x y : Fraction} → high x → high y → is_zero (up_weight (shape_between lower upper) x y) ≡ false → IsTrue (may_weigh_bound upper (up_weight (shape_between lower upper) x y))
-    own (Some l) (Some u) {y = y} above more some = show_at_most zero_value y more
+    own (Some l) (Some u) {y = y} above more some = at_most_shown zero_value y more
     own (Some l) None above more some = none_is some
-    own None (Some u) {x = x} above more some = show_at_most zero_value x above
+    own None (Some u) {x = x} above more some = at_most_shown zero_value x above
     own None None above more some = none_is some
 
 -- ---- items
@@ -235,7 +236,7 @@ module _ (m : Model) (cuts : List Cut) (s : Std) (k : Fraction) (cs : List Fract
       let size = length-numbers_from 0 n in
       let zero_on : 0 + j ≡ j = omega arith in
       ap (λ v. w ⊗ v) (one_value_of (coefficients_of n row) n j (length-map (numbers_from 0 n) (coefficient row.terms) ∙ size) within) ∙ lowest_product w (value_at (coefficients_of n row) j)
-      ∙ ap (λ v. w ⊗ v) (get_or-map (coefficient row.terms) (numbers_from 0 n) j 0 zero_value (omega (arith, within, size)) ∙ ap (coefficient row.terms) (number_at 0 n j 0 within ∙ zero_on))
+      ∙ ap (λ v. w ⊗ v) (get_or-map (coefficient row.terms) (numbers_from 0 n) j 0 zero_value (omega (arith, within, size)) ∙ ap (coefficient row.terms) (get_or-numbers_from 0 n j 0 within ∙ zero_on))
 
   coefficient_sum : (j : ℕ) → j < length shapes → total amount (sum_steps m back j (suc j)) ≡ zero_value ⊕ value_at cs j
   unfolding rows_at

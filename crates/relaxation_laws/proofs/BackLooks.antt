@@ -1,41 +1,25 @@
 -- The looks of a leaf as sums over the model's rows and bounds.
-use Rattle.std.proofs.Common.{◌≡◌, ◌∙◌, refl, sym, ap, ap₂, subst, ℕ, zero, suc, ◌+◌, ◌<◌, ◌==◌, Bool, true, false, cond, List, [], ◌∷◌, length, drop, All, Some, None, IsTrue, Ordering, Less, Equal, Greater, pos, arith, eq-eqb, ne_eqb}
 use Rattle.std.specs.Prelude.{◌*ℤ◌, slice_get}
-use Rattle.std.specs.Ordering.{MatchOrdering, is_eq, is_le, is_lt}
+use Rattle.std.specs.Ordering.{MatchOrdering, is_eq}
+use Rattle.std.proofs.Common.{◌≡◌, ◌∙◌, refl, sym, ap, ap₂, subst, ℕ, zero, suc, ◌+◌, ◌<◌, ◌==◌, Bool, true, false, cond, List, [], ◌∷◌, length, drop, All, Some, None, IsTrue, Ordering, Less, Equal, Greater, pos, arith, eq-eqb, ne_eqb}
 use Rattle.std.proofs.lemmas.Bool.Decides.{Decides-int_eq}
 use Rattle.std.proofs.lemmas.Int.{ints}
 use Rattle.std.proofs.lemmas.List.Elements.{All-cons, All-head, All-nil, All-tail}
 use Rattle.frac128.specs.Fraction.{Fraction, den, zero_value}
 use Rattle.frac128.specs.Order.{IsAtMost, IsBelow, order_of}
+use Rattle.frac128.specs.Lowest.{IsInLowestTerms}
 use Rattle.frac128.proofs.Field.{apart_of-sum, apart_of-zero, exact_product-zero_left, exact_sum-zero_left, exact_sum_comm}
 use Rattle.frac128.proofs.Ordered.{IsAtMost_antisymm, IsAtMost_trans, IsBelow-not, order_of-tells}
+use Rattle.frac128.proofs.Sums.{no_zeros, of_some, total, ◌⊕◌, ◌⊗◌}
 use Rattle.model_data.specs.declared.solution.Weight.{Weight}
 use Rattle.solve_defs.specs.Certificates.{share}
 use Rattle.solve_defs.specs.Looks.{Step}
 use Rattle.solve_defs.specs.StandardForm.{numbered}
-use Rattle.solve_defs.specs.Values.{is_at_most, is_below, is_same, is_zero, value_at}
+use Rattle.solve_defs.specs.Values.{is_same, is_zero, value_at}
 use Rattle.solve_defs.proofs.FormQuotients.{at_most_lowest, lowest_at_most, zero-product}
 use Rattle.solve_defs.proofs.LeafSums.{amount}
-use Rattle.frac128.specs.Lowest.{IsInLowestTerms}
-use Rattle.frac128.proofs.Sums.{no_zeros, of_some, total, ◌⊕◌, ◌⊗◌}
 
 -- ---- what is shown of two values
-
-pub show_at_most : (x y : Fraction) → IsAtMost x y → IsTrue (is_at_most x y)
-show_at_most x y h = told (order_of x y) (order_of-tells x y)
-  where
-    told : (r : Ordering) → MatchOrdering r (IsBelow x y) (x.num *ℤ pos (den y) ≡ y.num *ℤ pos (den x)) (IsBelow y x) → IsTrue (is_le r)
-    told Less k = refl
-    told Equal k = refl
-    told Greater k = absurd (IsBelow-not y x k h)
-
-pub show_below : (x y : Fraction) → IsBelow x y → IsTrue (is_below x y)
-show_below x y h = told (order_of x y) (order_of-tells x y)
-  where
-    told : (r : Ordering) → MatchOrdering r (IsBelow x y) (x.num *ℤ pos (den y) ≡ y.num *ℤ pos (den x)) (IsBelow y x) → IsTrue (is_lt r)
-    told Less k = refl
-    told Equal k = let below = h.below in absurd (omega (arith, ints, below, k))
-    told Greater k = let below = h.below in let back = k.below in absurd (omega (arith, ints, below, back))
 
 pub show_same : (x y : Fraction) → IsAtMost x y → IsAtMost y x → IsTrue (is_same x y)
 show_same x y h back = told (order_of x y) (order_of-tells x y)

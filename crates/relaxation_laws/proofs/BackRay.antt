@@ -1,18 +1,18 @@
 -- A direction of the columns, brought back to the model, is a ray of a certificate whose looks hold.
-use Rattle.std.proofs.Common.{◌≡◌, ◌∙◌, refl, sym, ap, ap₂, subst, ℕ, suc, ◌+◌, ◌<◌, Bool, true, false, List, [], ◌∷◌, ◌++◌, length, map, drop, All, Option, Some, None, IsTrue, Ok, arith}
 use Rattle.std.specs.Prelude.{◌||◌, IfSome, flat_map, is_none, zip, ◌&&◌}
 use Rattle.std.specs.List.{AllZip, enumerate_from}
+use Rattle.std.proofs.Common.{◌≡◌, ◌∙◌, refl, sym, ap, ap₂, subst, ℕ, suc, ◌+◌, ◌<◌, Bool, true, false, List, [], ◌∷◌, ◌++◌, length, map, drop, All, Option, Some, None, IsTrue, Ok, arith}
 use Rattle.std.proofs.lemmas.List.{length-map}
 use Rattle.std.proofs.lemmas.List.Elements.{All-append, All-cons, All-nil}
 use Rattle.std.proofs.lemmas.List.Sums.{sum_by-cons}
 use Rattle.frac128.specs.Checked.{checked_difference, ◌>>=◌}
 use Rattle.frac128.specs.Fraction.{Fraction, exact_difference, negation, zero_value}
 use Rattle.frac128.specs.Order.{IsAtMost, IsBelow}
+use Rattle.frac128.specs.Lowest.{IsInLowestTerms}
 use Rattle.frac128.proofs.Field.{exact_product-negation_left, exact_product-negation_right, exact_product-sum_right, exact_sum_assoc, exact_sum_comm, negation-negation}
 use Rattle.frac128.proofs.Ordered.{IsAtMost-negation, IsAtMost_trans, IsBelow-negation, IsBelow_trans, IsBelow_trans_right}
-use Rattle.dictionary.specs.Dictionary.{each, numbers_from}
-use Rattle.dictionary.specs.declared.standard.Std.{Std}
-use Rattle.dictionary.specs.declared.standard.StdRow.{StdRow}
+use Rattle.frac128.proofs.Chains.{difference_is, same_ok, through}
+use Rattle.frac128.proofs.Sums.{total, total-map, ◌⊕◌, ◌⊗◌}
 use Rattle.model_data.specs.Lawful.{IsLawful}
 use Rattle.model_data.specs.declared.model.Direction.{Direction}
 use Rattle.model_data.specs.declared.model.Direction.TheVariants.{Maximize, Minimize}
@@ -21,6 +21,10 @@ use Rattle.model_data.specs.declared.model.Row.{Row}
 use Rattle.model_data.specs.declared.model.Sense.{Sense}
 use Rattle.model_data.specs.declared.model.Sense.TheVariants.{Equal, Greater, Less}
 use Rattle.model_data.specs.declared.model.Term.{Term}
+use Rattle.dictionary.specs.Dictionary.{each, numbers_from}
+use Rattle.dictionary.specs.declared.standard.Std.{Std}
+use Rattle.dictionary.specs.declared.standard.StdRow.{StdRow}
+use Rattle.dictionary.proofs.Opened.{length-numbers_from}
 use Rattle.solve_defs.specs.Bounds.{Bounds, effective_bounds}
 use Rattle.solve_defs.specs.Certificates.{compares, gains, is_above, is_under, is_within, keeps_along, objective_steps, ray_bound, ray_gain, ray_looks, ray_row, row_steps, stays_within}
 use Rattle.solve_defs.specs.Columns.{KeepsStdRow, columns_sum}
@@ -31,20 +35,18 @@ use Rattle.solve_defs.specs.declared.cut.Cut.{Cut}
 use Rattle.solve_defs.specs.declared.verdict.Place.TheVariants.{RayRow}
 use Rattle.solve_defs.specs.declared.solving.StdRay.{StdRay}
 use Rattle.solve_defs.proofs.FormBounds.{Within, shape_of, variables_back}
-use Rattle.solve_defs.proofs.FormLaw.{point_back_is_exact}
+use Rattle.solve_defs.proofs.FormLaw.{point_back_is_exact, rises}
 use Rattle.solve_defs.proofs.FormLists.{Each, at_drop, each_from_all, each_left, each_right}
 use Rattle.solve_defs.proofs.FormPoints.{objective_coefs}
 use Rattle.solve_defs.proofs.FormRows.{Holds, HoldsAt, IsRising, rows_back}
 use Rattle.solve_defs.proofs.FormSums.{columns_sum-negation, one_column, terms_by_place, terms_sum}
 use Rattle.solve_defs.proofs.FormValues.{parts}
 use Rattle.solve_defs.proofs.LeafSums.{amount, total_of-steps}
+use Rattle.solve_defs.proofs.FormSizes.{length-obj, length-shapes_of}
+use Rattle.solve_defs.proofs.PointValues.{at_most_shown, below_shown}
 use Rattle.relaxation_laws.specs.FormEnds.{IsStdRay}
-use Rattle.relaxation_laws.proofs.Back.{obj_long, rising_rows, shapes_long, turned_sum}
-use Rattle.relaxation_laws.proofs.BackLooks.{same_at_most, show_at_most, show_below, show_same}
-use Rattle.frac128.specs.Lowest.{IsInLowestTerms}
-use Rattle.dictionary.proofs.Opened.{length-numbers_from}
-use Rattle.frac128.proofs.Chains.{difference_is, same_ok, through}
-use Rattle.frac128.proofs.Sums.{total, total-map, ◌⊕◌, ◌⊗◌}
+use Rattle.relaxation_laws.proofs.Back.{turned_sum}
+use Rattle.relaxation_laws.proofs.BackLooks.{same_at_most, show_same}
 
 -- ---- the variables along a direction
 
@@ -166,16 +168,16 @@ pub row_compares : (row : Row) (xs : List Fraction) → HoldsAt xs row → IsTru
 row_compares row xs h = by_sense_is row.sense (total_of zero_value (row_steps row.terms xs)) (terms_sum row.terms xs) row.rhs (sum_is row.terms xs) h
   where
     by_sense_is : (sense : Sense) (x y r : Fraction) → zero_value ⊕ x ≡ zero_value ⊕ y → Holds sense y r → IsTrue (compares sense x r)
-    by_sense_is Less x y r same k = show_at_most x r (IsAtMost_trans x y r (same_at_most x y same) k)
-    by_sense_is Greater x y r same k = show_at_most r x (IsAtMost_trans r y x k (same_at_most y x (sym same)))
+    by_sense_is Less x y r same k = at_most_shown x r (IsAtMost_trans x y r (same_at_most x y same) k)
+    by_sense_is Greater x y r same k = at_most_shown r x (IsAtMost_trans r y x k (same_at_most y x (sym same)))
     by_sense_is Equal x y r same k = show_same x r (IsAtMost_trans x y r (same_at_most x y same) k.0) (IsAtMost_trans r y x k.1 (same_at_most y x (sym same)))
 
 row_keeps_along : (row : Row) (ray : List Fraction) → RowAlong ray row → IsTrue (keeps_along row.sense (total_of zero_value (row_steps row.terms ray)))
 row_keeps_along row ray h = by_sense_is row.sense (total_of zero_value (row_steps row.terms ray)) (terms_sum row.terms ray) (sum_is row.terms ray) h
   where
     by_sense_is : (sense : Sense) (x y : Fraction) → zero_value ⊕ x ≡ zero_value ⊕ y → KeepsAlong sense y → IsTrue (keeps_along sense x)
-    by_sense_is Less x y same k = show_at_most x zero_value (IsAtMost_trans x y zero_value (same_at_most x y same) k)
-    by_sense_is Greater x y same k = show_at_most zero_value x (IsAtMost_trans zero_value y x k (same_at_most y x (sym same)))
+    by_sense_is Less x y same k = at_most_shown x zero_value (IsAtMost_trans x y zero_value (same_at_most x y same) k)
+    by_sense_is Greater x y same k = at_most_shown zero_value x (IsAtMost_trans zero_value y x k (same_at_most y x (sym same)))
     by_sense_is Equal x y same k = show_same x zero_value (IsAtMost_trans x y zero_value (same_at_most x y same) k.0) (IsAtMost_trans zero_value y x k.1 (same_at_most y x (sym same)))
 
 two_looks : (a b : Look) → Looked a → Looked b → All Looked (a ∷ b ∷ [])
@@ -241,22 +243,22 @@ is_within_from lower upper x h k = both_true (is_above lower x) (is_under upper 
   where
     above_is : (o : Option Fraction) → IfSome o (λ l. IsAtMost l x) → IsTrue (is_above o x)
     above_is None e = refl
-    above_is (Some l) e = show_at_most l x e
+    above_is (Some l) e = at_most_shown l x e
 
     under_is : (o : Option Fraction) → IfSome o (λ u. IsAtMost x u) → IsTrue (is_under o x)
     under_is None e = refl
-    under_is (Some u) e = show_at_most x u e
+    under_is (Some u) e = at_most_shown x u e
 
 stays_from : (lower upper : Option Fraction) (y : Fraction) → StaysBetween lower upper y → IsTrue ((is_none lower || is_at_most zero_value y) && (is_none upper || is_at_most y zero_value))
 stays_from lower upper y h = both_true _ _ (low_is lower h.0) (up_is upper h.1)
   where
     low_is : (o : Option Fraction) → IfSome o (λ _. IsAtMost zero_value y) → IsTrue (is_none o || is_at_most zero_value y)
     low_is None e = refl
-    low_is (Some l) e = show_at_most zero_value y e
+    low_is (Some l) e = at_most_shown zero_value y e
 
     up_is : (o : Option Fraction) → IfSome o (λ _. IsAtMost y zero_value) → IsTrue (is_none o || is_at_most y zero_value)
     up_is None e = refl
-    up_is (Some u) e = show_at_most y zero_value e
+    up_is (Some u) e = at_most_shown y zero_value e
 
 bounds_hold : (number : ℕ) (bounds : List Bounds) (point ray : List Fraction) → AllZip Within bounds point → AllZip Stays bounds ray → All Looked (map ray_bound (enumerate_from number (zip bounds (zip point ray))))
 bounds_hold number [] [] [] within stays = All-nil Looked
@@ -286,8 +288,8 @@ gain_holds m ray h = by_direction m.direction (total_of zero_value (objective_st
 
     by_direction : (d : Direction) (x y : Fraction) → zero_value ⊕ x ≡ zero_value ⊕ y → IsBelow zero_value (turned d y) → IsTrue (gains d x)
     by_direction Minimize x y e k =
-        show_below x zero_value (IsBelow_trans_right x y zero_value (same_at_most x y e) (subst (λ v. IsBelow v zero_value) (negation-negation y) (IsBelow-negation zero_value (negation y) k)))
-    by_direction Maximize x y e k = show_below zero_value x (IsBelow_trans zero_value y x k (same_at_most y x (sym e)))
+        below_shown x zero_value (IsBelow_trans_right x y zero_value (same_at_most x y e) (subst (λ v. IsBelow v zero_value) (negation-negation y) (IsBelow-negation zero_value (negation y) k)))
+    by_direction Maximize x y e k = below_shown zero_value x (IsBelow_trans zero_value y x k (same_at_most y x (sym e)))
 
 -- ---- all of it
 
@@ -299,11 +301,11 @@ ray_holds m cuts s r point ray lawful root form std point_made ray_made =
     let bounds = effective_bounds m cuts in
     let ys = r.ray in
     let zs = r.point in
-    let columns = obj_long m cuts s p in
+    let columns = length-obj m cuts s p in
     let ray_long = std.columns ∙ columns in
     let point_long = std.allowed.columns ∙ columns in
     let flat = flat_map (λ same. same) p.rows in
-    let rising = rising_rows m lawful in
+    let rising = rises m lawful in
     let is_point = point_back_is_exact shapes zs point point_made in
     let is_ray = ray_is_exact shapes ys ray ray_made in
     let falls = subst (λ rs. Each (Falls ys) rs) (sym p.form_rows) (each_from_all (Falls ys) s.rows std.rows) in
@@ -316,7 +318,7 @@ ray_holds m cuts s r point ray lawful root form std point_made ray_made =
     let limits = bounds_hold 1 bounds point ray (subst (λ xs. AllZip Within bounds xs) (sym is_point) within) (subst (λ xs. AllZip Stays bounds xs) (sym is_ray) stay) in
     let gain = gain_holds m ray
     (subst (λ v. IsBelow zero_value (turned m.direction v))
-    (sym (ap (columns_sum (objective_coefs m)) is_ray ∙ ray_sum shapes 0 (objective_coefs m) ys ys refl ray_long (length-map m.vars (λ v. v.obj) ∙ shapes_long m cuts)))
+    (sym (ap (columns_sum (objective_coefs m)) is_ray ∙ ray_sum shapes 0 (objective_coefs m) ys ys refl ray_long (length-map m.vars (λ v. v.obj) ∙ length-shapes_of m cuts)))
     (subst (IsBelow zero_value) (ap (λ cs. columns_sum cs ys) (sym p.form_obj) ∙ turned_sum m.direction (entries shapes (objective_coefs m)) ys) std.rises)) in
     All-append Looked _ _
     (All-append Looked _ _ rows (subst (λ cs. All Looked (map ray_bound (enumerate_from 1 (zip (effective_bounds m cs) (zip point ray))))) root limits))

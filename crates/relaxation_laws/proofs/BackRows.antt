@@ -1,23 +1,23 @@
 -- The form's rows with their weights are the model's rows with the weights that are brought back.
-use Rattle.std.proofs.Common.{◌≡◌, ◌∙◌, refl, sym, ap, ap₂, subst, ℕ, suc, ◌+◌, List, [], ◌∷◌, ◌++◌, append_assoc, length, length-append, length-drop, drop, Ok, arith}
 use Rattle.std.specs.Prelude.{flat_map, sum_by}
+use Rattle.std.proofs.Common.{◌≡◌, ◌∙◌, refl, sym, ap, ap₂, subst, ℕ, suc, ◌+◌, List, [], ◌∷◌, ◌++◌, append_assoc, length, length-append, length-drop, drop, Ok, arith}
 use Rattle.std.proofs.lemmas.List.Sums.{sum_by-cons}
 use Rattle.frac128.specs.Fraction.{Fraction, exact_difference, negation, zero_value}
 use Rattle.frac128.proofs.Field.{exact_product-negation_left, exact_product-negation_right, exact_product-sum, exact_sum-zero_left, exact_sum_assoc}
-use Rattle.dictionary.specs.Dictionary.{each}
-use Rattle.dictionary.specs.declared.standard.StdRow.{StdRow}
+use Rattle.frac128.proofs.Chains.{difference_is, same_ok, through}
+use Rattle.frac128.proofs.Sums.{◌⊕◌, ◌⊗◌}
 use Rattle.model_data.specs.Size.{rows_of_sense}
 use Rattle.model_data.specs.declared.model.Row.{Row}
 use Rattle.model_data.specs.declared.model.Sense.{Sense}
 use Rattle.model_data.specs.declared.model.Sense.TheVariants.{Equal, Greater, Less}
+use Rattle.dictionary.specs.Dictionary.{each}
+use Rattle.dictionary.specs.declared.standard.StdRow.{StdRow}
 use Rattle.solve_defs.specs.StandardForm.{Shape, by_sense, negated, row_entries, row_weight, row_weights, rows_of, side_less}
 use Rattle.solve_defs.specs.Values.{value_at}
 use Rattle.solve_defs.proofs.FormLists.{Each, at_drop}
 use Rattle.relaxation_laws.specs.FormWeights.{weighted}
 use Rattle.relaxation_laws.specs.LeafSums.{row_total}
 use Rattle.relaxation_laws.proofs.Priced.{weighted_low}
-use Rattle.frac128.proofs.Chains.{difference_is, same_ok, through}
-use Rattle.frac128.proofs.Sums.{◌⊕◌, ◌⊗◌}
 
 -- what a row has, which turns with it
 pub record TurnsWith (part : StdRow → Fraction) : Type 0 where

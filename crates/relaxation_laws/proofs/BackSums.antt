@@ -1,15 +1,18 @@
 -- What the weights that are brought back make of the model's rows and bounds: the objective's coefficients, and the side.
-use Rattle.std.proofs.Common.{◌≡◌, ◌∙◌, refl, sym, ap, ap₂, ℕ, ◌+◌, List, [], ◌∷◌, ◌++◌, length, length-append, length-drop, map, drop, ◌-◌, All, Ok, arith}
 use Rattle.std.specs.Prelude.{flat_map, sum_by}
+use Rattle.std.proofs.Common.{◌≡◌, ◌∙◌, refl, sym, ap, ap₂, ℕ, ◌+◌, List, [], ◌∷◌, ◌++◌, length, length-append, length-drop, map, drop, ◌-◌, All, Ok, arith}
 use Rattle.std.proofs.lemmas.List.{length-map}
 use Rattle.frac128.specs.Fraction.{Fraction, negation, zero_value}
+use Rattle.frac128.specs.Lowest.{IsInLowestTerms}
 use Rattle.frac128.proofs.Field.{exact_product-sum_right, exact_product-zero_right, exact_sum-negation, exact_sum-zero_left, exact_sum_assoc, exact_sum_comm, negation-negation}
-use Rattle.dictionary.specs.Dictionary.{numbers_from}
-use Rattle.dictionary.specs.declared.standard.Std.{Std}
-use Rattle.dictionary.specs.declared.standard.StdRow.{StdRow}
+use Rattle.frac128.proofs.Sums.{interchange, minus, minus_is, no_zeros, sums, ◌⊕◌, ◌⊗◌}
 use Rattle.model_data.specs.Size.{rows_of_sense}
 use Rattle.model_data.specs.declared.model.Model.{Model}
 use Rattle.model_data.specs.declared.model.Row.{Row}
+use Rattle.dictionary.specs.Dictionary.{numbers_from}
+use Rattle.dictionary.specs.declared.standard.Std.{Std}
+use Rattle.dictionary.specs.declared.standard.StdRow.{StdRow}
+use Rattle.dictionary.proofs.Opened.{length-numbers_from}
 use Rattle.solve_defs.specs.Columns.{columns_sum}
 use Rattle.solve_defs.specs.StandardForm.{Shape, column_count, entries, low_weights, row_weights, shapes_of, up_weights}
 use Rattle.solve_defs.specs.Values.{coefficient}
@@ -19,17 +22,14 @@ use Rattle.solve_defs.proofs.FormLists.{Each}
 use Rattle.solve_defs.proofs.FormRows.{IsRising, side_is}
 use Rattle.solve_defs.proofs.FormSums.{columns_sum-negation, columns_sum_low, offset_value, offsets, terms_by_place, terms_sum}
 use Rattle.solve_defs.proofs.FormValues.{Parts}
+use Rattle.solve_defs.proofs.FormBounds.{low_negation}
 use Rattle.relaxation_laws.specs.FormEnds.{AreAtLeastZero}
 use Rattle.relaxation_laws.specs.FormWeights.{Prices, weighted, weighted_sides, weighted_values}
 use Rattle.relaxation_laws.specs.LeafSums.{bound_total, coefficients_of, lower_side, row_total, upper_side}
 use Rattle.relaxation_laws.proofs.BackBounds.{bounds_part, sides_part, spans_zero}
 use Rattle.relaxation_laws.proofs.BackRows.{HasParts, TurnsWith, rows_count, rows_part}
 use Rattle.relaxation_laws.proofs.Lifted.{NoneFree, both_at_one, entries_both, entries_lift, length-both, length-lift, lift, lift_low, none_free}
-use Rattle.relaxation_laws.proofs.Rising.{negation_low}
 use Rattle.relaxation_laws.proofs.Priced.{lowest, lowest_length, lowest_low, lowest_product, lowest_sum}
-use Rattle.frac128.proofs.Sums.{interchange, minus, minus_is, no_zeros, sums, ◌⊕◌, ◌⊗◌}
-use Rattle.frac128.specs.Lowest.{IsInLowestTerms}
-use Rattle.dictionary.proofs.Opened.{length-numbers_from}
 
 -- ---- sums over rows
 
@@ -120,7 +120,7 @@ module _ (m : Model) (cuts : List Cut) (s : Std) (k : Fraction) (cs : List Fract
       let none : zero_value ≡ zero_value ⊕ negation (columns_sum weights.reduced both) =
       sym (entries_both shapes cs) ∙ given.prices.values both (length-both shapes ∙ sym given.columns) ∙ ap (λ t. t ⊕ negation (columns_sum weights.reduced both)) rows in
       none_free shapes weights.reduced given.at_least_zero.lowest given.at_least_zero.reduced
-      (sym (negation-negation (columns_sum weights.reduced both)) ∙ ap negation (sym (exact_sum-zero_left (negation (columns_sum weights.reduced both)) (negation_low (columns_sum weights.reduced both) low)) ∙ sym none))
+      (sym (negation-negation (columns_sum weights.reduced both)) ∙ ap negation (sym (exact_sum-zero_left (negation (columns_sum weights.reduced both)) (low_negation (columns_sum weights.reduced both) low)) ∙ sym none))
     where
       no_rows : (rows : List Row) (vs : List Fraction) → row_total (λ row. zero_value) rows vs ≡ zero_value
       no_rows [] vs = refl

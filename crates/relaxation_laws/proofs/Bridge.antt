@@ -5,7 +5,10 @@ use Rattle.std.proofs.lemmas.List.{get_or-map, get_or_append_left, get_or_past, 
 use Rattle.std.proofs.lemmas.List.Elements.{All-append, All-cons, All-from_get_or, All-get_or, All-map, All-weaker}
 use Rattle.frac128.specs.Fraction.{Fraction, exact_difference, exact_product, exact_sum, negation, zero_value}
 use Rattle.frac128.specs.Order.{IsAtMost}
+use Rattle.frac128.specs.Lowest.{IsInLowestTerms}
 use Rattle.frac128.proofs.Ordered.{IsAtMost-difference, IsAtMost-self, IsAtMost_of-difference}
+use Rattle.frac128.proofs.Field.{apart_of-sum, apart_of-zero}
+use Rattle.frac128.proofs.Sums.{minus_is}
 use Rattle.dictionary.specs.declared.standard.Std.{Std}
 use Rattle.dictionary.specs.declared.standard.StdRow.{StdRow}
 use Rattle.dictionary.specs.Dictionary.{numbers_from, without_artificial}
@@ -13,19 +16,12 @@ use Rattle.dictionary.specs.Solutions.{HasReducedNumbers, IsFeasible, Point, Sol
 use Rattle.dictionary.proofs.Opened.{length-numbers_from}
 use Rattle.dictionary.proofs.Points.PivotLaw.{solves_from_true, true_from_solves}
 use Rattle.dictionary.proofs.Points.Turned.{told}
+use Rattle.dictionary.proofs.Points.Opening.{get_or-numbers_from}
 use Rattle.solve_defs.specs.Columns.{IsColumnsPoint, KeepsStdRow, columns_sum, form_value}
 use Rattle.solve_defs.proofs.FormSums.{columns_sum_low}
 use Rattle.relaxation_laws.specs.FormPoints.{columns_of, form_point, form_values, slacks}
-use Rattle.frac128.specs.Lowest.{IsInLowestTerms}
-use Rattle.frac128.proofs.Field.{apart_of-sum, apart_of-zero}
-use Rattle.frac128.proofs.Sums.{minus_is}
 
 -- ---- numbers in a row
-
-pub number_at : (first count i d : ℕ) → i < count → get_or (numbers_from first count) i d ≡ first + i
-number_at first zero i d within = absurd (omega (arith, within))
-number_at first (suc count) zero d within = omega arith
-number_at first (suc count) (suc i) d within = number_at (suc first) count i d (omega (arith, within)) ∙ omega arith
 
 -- a sum over columns in a row, where the point has the values of a list there
 pub sum_at-values : (x : Point) (first n : ℕ) (coefs ys : List Fraction) → length ys ≡ n → ((i : ℕ) → i < n → x (first + i) ≡ get_or ys i zero_value)
@@ -87,7 +83,7 @@ form_point-solves s ys same low =
     let row : StdRow = record { coefs = []; rhs = zero_value } in
     let inside : i < m = omega (arith, within, length-numbers_from (suc n) m) in
     let here : x (slice_index (numbers_from (suc n) m) i) ≡ exact_difference (get_or s.rows i row).rhs (columns_sum (get_or s.rows i row).coefs ys) =
-    ap x (number_at (suc n) m i 0 inside ∙ ap (λ k. suc k + i) (sym same)) ∙ value_slack s ys i ∙ slack_is s ys i row inside in
+    ap x (get_or-numbers_from (suc n) m i 0 inside ∙ ap (λ k. suc k + i) (sym same)) ∙ value_slack s ys i ∙ slack_is s ys i row inside in
     here ∙ sym (row_told s ys i row same inside))
   where
     row_told : (s : Std) (ys : List Fraction) (i : ℕ) (row : StdRow) → length ys ≡ length s.obj → i < length s.rows
@@ -120,7 +116,7 @@ length-columns_of s x = length-map (numbers_from 1 (length s.obj)) x ∙ length-
 pub columns_of-at : (s : Std) (x : Point) (i : ℕ) → i < length s.obj → get_or (columns_of s x) i zero_value ≡ x (1 + i)
 columns_of-at s x i within =
     get_or-map x (numbers_from 1 (length s.obj)) i 0 zero_value (omega (arith, within, length-numbers_from 1 (length s.obj)))
-    ∙ ap x (number_at 1 (length s.obj) i 0 within)
+    ∙ ap x (get_or-numbers_from 1 (length s.obj) i 0 within)
 
 pub columns_of-sum : (s : Std) (x : Point) (coefs : List Fraction) → sum_at x (numbers_from 1 (length s.obj)) coefs ≡ columns_sum coefs (columns_of s x)
 columns_of-sum s x coefs = sum_at-values x 1 (length s.obj) coefs (columns_of s x) (length-columns_of s x) (λ i within. sym (columns_of-at s x i within))
@@ -132,7 +128,7 @@ unfolding without_artificial
 solution_rows s x i row h within =
     let n = length s.obj in
     let m = length s.rows in
-    ap x (sym (number_at (suc n) m i 0 within))
+    ap x (sym (get_or-numbers_from (suc n) m i 0 within))
     ∙ true_from_solves (without_artificial s) x h i (omega (arith, within, length-numbers_from (suc n) m))
     ∙ ap (told x (numbers_from 1 n)) (get_or-map (λ r. r.rhs ∷ r.coefs) s.rows i row [] within)
     ∙ ap (λ t. exact_sum (get_or s.rows i row).rhs t) (minus_is _ ∙ ap negation (columns_of-sum s x (get_or s.rows i row).coefs))

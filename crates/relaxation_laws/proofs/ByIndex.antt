@@ -1,16 +1,16 @@
 -- A sum over a dictionary's columns as a sum over all variables by index.
-use Rattle.std.proofs.Common.{◌≡◌, ◌≢◌, ◌∙◌, ⊎_elim, refl, sym, ap, ap₂, subst, ℕ, zero, suc, ◌+◌, ◌≤◌, ◌==◌, cond, List, [], ◌∷◌, ◌++◌, length, All, AllPairs, arith, eq-eqb, ne_eqb}
 use Rattle.std.specs.Prelude.{not}
+use Rattle.std.proofs.Common.{◌≡◌, ◌≢◌, ◌∙◌, ⊎_elim, refl, sym, ap, ap₂, subst, ℕ, zero, suc, ◌+◌, ◌≤◌, ◌==◌, cond, List, [], ◌∷◌, ◌++◌, length, All, AllPairs, arith, eq-eqb, ne_eqb}
 use Rattle.std.proofs.lemmas.Bool.{cases_eq}
 use Rattle.std.proofs.lemmas.List.Elements.{All-head, All-tail}
 use Rattle.frac128.specs.Fraction.{Fraction, zero_value}
+use Rattle.frac128.specs.Lowest.{IsInLowestTerms}
 use Rattle.frac128.proofs.Field.{apart_of-product, exact_product-zero_left, exact_product-zero_right, exact_sum-zero_left, exact_sum-zero_right}
+use Rattle.frac128.proofs.Sums.{total, total-append, total-plus, total-same, total-zero, ◌⊕◌, ◌⊗◌}
 use Rattle.dictionary.specs.Dictionary.{entry}
 use Rattle.dictionary.specs.Solutions.{Point, sum_at}
 use Rattle.dictionary.proofs.Points.OwnPoint.{place_of}
 use Rattle.solve_defs.proofs.Places.{AllPairs-first, AllPairs-rest, none_before, only_place, places}
-use Rattle.frac128.proofs.Sums.{total, total-append, total-plus, total-same, total-zero, ◌⊕◌, ◌⊗◌}
-use Rattle.frac128.specs.Lowest.{IsInLowestTerms}
 
 -- the coefficient of a variable, and 0 where it has no column
 abbrev pub look : List ℕ → List Fraction → ℕ → Fraction

@@ -1,20 +1,20 @@
 -- What comes next, and that a pivot that comes is one by the rule.
-use Rattle.std.proofs.Common.{◌≡◌, ◌≢◌, ◌∙◌, refl, sym, ap, ap₂, subst, ℕ, Bool, true, false, true≢false, cond, List, length, slice_index, slice_index_or, All, Option, Some, None, unwrap_or, Ok, ℤ, pos, negsuc, arith, ◌<◌, eq-eqb, ne_eqb}
 use Rattle.std.specs.Prelude.{◌≤ℤ◌, ◌*ℤ◌, is_some, is_none, ◌&&◌, not, ◌==◌}
 use Rattle.std.specs.List.{list_any}
+use Rattle.std.proofs.Common.{◌≡◌, ◌≢◌, ◌∙◌, refl, sym, ap, ap₂, subst, ℕ, Bool, true, false, true≢false, cond, List, length, slice_index, slice_index_or, All, Option, Some, None, unwrap_or, Ok, ℤ, pos, negsuc, arith, ◌<◌, eq-eqb, ne_eqb}
 use Rattle.std.proofs.lemmas.Int.{ints}
 use Rattle.std.proofs.lemmas.List.Folds.{list_any_at, list_any_none}
 use Rattle.frac128.specs.Fraction.{Fraction, den, zero_value}
 use Rattle.frac128.specs.Numbers.{is_below_zero}
 use Rattle.frac128.specs.Order.{IsAtMost, IsBelow}
 use Rattle.frac128.proofs.Ordered.{IsBelow-not}
+use Rattle.frac128.proofs.Chains.{same_ok, through}
 use Rattle.dictionary.specs.Dictionary.{Dictionary, end_phase_one, entry, is_negative, pivot}
 use Rattle.dictionary.specs.Rule.{Ratio, entering_column, is_positive, leaving_row, ratios}
 use Rattle.dictionary.specs.Solutions.{HasFeasibleConstants, IsLawful, PivotsByRule}
 use Rattle.dictionary.proofs.Points.Chosen.{at_most_from_not_positive, leaving-none, not_positive_from_at_most}
 use Rattle.solve_defs.specs.Path.{Entering, a_pivot, an_end, artificial, awaits_artificial, by_rule, coming, coming_by_rule, is_basic, is_bounded, is_phase_one, next, pivoted, settled}
 use Rattle.solve_defs.specs.declared.solving.LpEnd.TheVariants.{Best, NoPoint, Unbounded}
-use Rattle.frac128.proofs.Chains.{same_ok, through}
 
 -- ---- tests and what they tell
 

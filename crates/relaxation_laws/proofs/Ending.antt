@@ -1,6 +1,6 @@
 -- Where each end comes, and what it tells of the form.
-use Rattle.std.proofs.Common.{◌≡◌, ◌≢◌, ◌∙◌, ◌⊎◌, ⊎_elim, refl, sym, ap, ap₂, subst, ℕ, zero, suc, ◌+◌, ◌-◌, ◌<◌, ◌≤◌, ◌==◌, Bool, true, false, true≢false, cond, List, [], ◌∷◌, length, map, drop, replicate, slice_index_or, All, Option, Some, None, unwrap_or, arith, nat_lt, ne_eqb}
 use Rattle.std.specs.Prelude.{is_some}
+use Rattle.std.proofs.Common.{◌≡◌, ◌≢◌, ◌∙◌, ◌⊎◌, ⊎_elim, refl, sym, ap, ap₂, subst, ℕ, zero, suc, ◌+◌, ◌-◌, ◌<◌, ◌≤◌, ◌==◌, Bool, true, false, true≢false, cond, List, [], ◌∷◌, length, map, drop, replicate, slice_index_or, All, Option, Some, None, unwrap_or, arith, nat_lt, ne_eqb}
 use Rattle.std.proofs.lemmas.Bool.{cases_lt, le-ltb, lt-ltb}
 use Rattle.std.proofs.lemmas.List.{get_or_past, length-replicate}
 use Rattle.std.proofs.lemmas.List.Elements.{All-map, All-replicate}
@@ -8,6 +8,7 @@ use Rattle.std.proofs.lemmas.List.Folds.{list_any_at}
 use Rattle.std.proofs.lemmas.List.Sums.{position_or_len_is}
 use Rattle.frac128.specs.Fraction.{Fraction, exact_sum, zero_value}
 use Rattle.frac128.specs.Order.{IsAtMost, IsBelow}
+use Rattle.frac128.specs.Lowest.{IsInLowestTerms}
 use Rattle.frac128.proofs.Field.{apart_of-zero, exact_product-zero_left, exact_sum-zero_right}
 use Rattle.frac128.proofs.Ordered.{IsAtMost-negation, IsAtMost-self}
 use Rattle.dictionary.specs.declared.standard.Std.{Std}
@@ -34,7 +35,6 @@ use Rattle.relaxation_laws.proofs.ByRule.{awaits_none}
 use Rattle.relaxation_laws.proofs.FirstStep.{awaits_opening}
 use Rattle.relaxation_laws.proofs.Priced.{prices, weight_low}
 use Rattle.relaxation_laws.proofs.Steps.{artificial_bounds}
-use Rattle.frac128.specs.Lowest.{IsInLowestTerms}
 
 -- ---- which end comes where
 

@@ -1,7 +1,7 @@
 -- At an opening in phase one the artificial variable's pivot comes, and leaves it basic and above 0.
-use Rattle.std.proofs.Common.{◌≡◌, ◌∙◌, ⊎_elim, refl, sym, ap, subst, ℕ, zero, suc, ◌+◌, ◌<◌, ◌||◌, true, false, true≢false, cond, List, [], ◌∷◌, ◌++◌, length, length-append, length-set, map, get_or-set_other, get_or-set_same, slice_index, slice_index_or, Contains, Option, Some, None, option_map, unwrap_or, Ok, ℤ, pos, negsuc, arith, eqb-true}
 use Rattle.std.specs.Prelude.{◌<ℤ◌, ◌==◌, is_some}
 use Rattle.std.specs.List.{list_any, position_or_len}
+use Rattle.std.proofs.Common.{◌≡◌, ◌∙◌, ⊎_elim, refl, sym, ap, subst, ℕ, zero, suc, ◌+◌, ◌<◌, ◌||◌, true, false, true≢false, cond, List, [], ◌∷◌, ◌++◌, length, length-append, length-set, map, get_or-set_other, get_or-set_same, slice_index, slice_index_or, Contains, Option, Some, None, option_map, unwrap_or, Ok, ℤ, pos, negsuc, arith, eqb-true}
 use Rattle.std.proofs.lemmas.Int.{ints}
 use Rattle.std.proofs.lemmas.List.{get_or-map, get_or_append_left, get_or_push, length-map}
 use Rattle.std.proofs.lemmas.List.Folds.{Any-from_list_any}
@@ -9,8 +9,11 @@ use Rattle.std.proofs.lemmas.List.Sums.{passes_at_first}
 use Rattle.frac128.specs.Fraction.{Fraction, negation, one_value, zero_value}
 use Rattle.frac128.specs.Numbers.{is_below_zero}
 use Rattle.frac128.specs.Order.{IsAtMost, IsBelow}
+use Rattle.frac128.specs.Lowest.{IsInLowestTerms}
 use Rattle.frac128.proofs.Field.{apart_of-product, apart_of-zero, exact_product-negation_left, exact_product-one_left, exact_sum-zero_left, exact_sum-zero_right, negation-negation}
 use Rattle.frac128.proofs.Ordered.{IsAtMost-self, IsAtMost-sums, IsAtMost_trans, IsBelow-not, below_zero, cases_below}
+use Rattle.frac128.proofs.Chains.{same_ok, through}
+use Rattle.frac128.proofs.Sums.{minus, minus_is, ◌⊕◌, ◌⊗◌}
 use Rattle.dictionary.specs.Dictionary.{Dictionary, IsUniform, artificial_column, entry, is_negative, needs_phase_one, numbers_from, opening, pivot, with_artificial, without_artificial}
 use Rattle.dictionary.specs.Rule.{best_among, least_row, rows_from, side_before}
 use Rattle.dictionary.specs.Solutions.{HasFeasibleConstants, HasReducedNumbers, IsLawful, IsPhaseOne, Pivots, Point, Solves, own_point, sum_at}
@@ -19,7 +22,7 @@ use Rattle.dictionary.specs.declared.standard.StdRow.{StdRow}
 use Rattle.dictionary.proofs.Opened.{length-numbers_from}
 use Rattle.dictionary.proofs.Points.FirstPivot.{opening_feasible, opening_pivots}
 use Rattle.dictionary.proofs.Points.Lawful.{Turns, turn}
-use Rattle.dictionary.proofs.Points.Opening.{phase_one-opening}
+use Rattle.dictionary.proofs.Points.Opening.{get_or-numbers_from, phase_one-opening}
 use Rattle.dictionary.proofs.Points.OwnPoint.{own_point-basic, own_point-feasible, own_point-nonbasic, sum_at-none}
 use Rattle.dictionary.proofs.Points.PhaseOne.{IsPhaseOne-kept}
 use Rattle.dictionary.proofs.Points.PivotLaw.{solutions_kept, true_from_solves}
@@ -27,12 +30,8 @@ use Rattle.dictionary.proofs.Points.Sums.{sum_at-middle}
 use Rattle.dictionary.proofs.Points.Turned.{told}
 use Rattle.solve_defs.specs.Path.{artificial, awaits_artificial, next, pivoted, settled}
 use Rattle.relaxation_laws.specs.Reached.{HasArtificialAbove, IsInPhaseOne, Reached, Relaxes, in_phase_one}
-use Rattle.relaxation_laws.proofs.Bridge.{number_at}
 use Rattle.relaxation_laws.proofs.ByRule.{is_basic-from, settled_one}
 use Rattle.relaxation_laws.proofs.KeptForm.{relaxes-pivot, relaxes-with, some-map}
-use Rattle.frac128.specs.Lowest.{IsInLowestTerms}
-use Rattle.frac128.proofs.Chains.{same_ok, through}
-use Rattle.frac128.proofs.Sums.{minus, minus_is, ◌⊕◌, ◌⊗◌}
 
 pub opening_with : (s : Std) → needs_phase_one s ≡ true → opening s ≡ with_artificial (without_artificial s)
 unfolding opening
@@ -85,7 +84,7 @@ columns_with s =
     let more = length-append numbers (0 ∷ []) in
     record {
       contains = (n, omega (arith, size, more), get_or_push numbers 0 0 n size);
-      numbered = λ i within. get_or_append_left numbers (0 ∷ []) 0 i (omega (arith, within, size)) ∙ number_at 1 n i 0 within;
+      numbered = λ i within. get_or_append_left numbers (0 ∷ []) 0 i (omega (arith, within, size)) ∙ get_or-numbers_from 1 n i 0 within;
       long = omega (arith, size, more);
     }
 
@@ -109,7 +108,7 @@ told_with x n row same low none =
     let own = negation one_value ⊗ x 0 in
     let columns : sum_at x (numbers ++ 0 ∷ []) (row.coefs ++ negation one_value ∷ []) ≡ own =
     sum_at-middle x numbers [] row.coefs [] 0 (negation one_value) (same ∙ sym size)
-    ∙ ap (λ t. (t ⊕ zero_value) ⊕ own) (sum_at-none x numbers row.coefs (λ k below. let inside : k < n = omega (arith, below, size) in ap x (number_at 1 n k 0 inside) ∙ none k inside))
+    ∙ ap (λ t. (t ⊕ zero_value) ⊕ own) (sum_at-none x numbers row.coefs (λ k below. let inside : k < n = omega (arith, below, size) in ap x (get_or-numbers_from 1 n k 0 inside) ∙ none k inside))
     ∙ ap (λ t. t ⊕ own) (exact_sum-zero_right zero_value apart_of-zero) ∙ exact_sum-zero_left own (apart_of-product (negation one_value) (x 0)) in
     ap (λ t. row.rhs ⊕ t)
     (ap minus columns ∙ minus_is own ∙ ap negation (exact_product-negation_left one_value (x 0)) ∙ negation-negation (one_value ⊗ x 0) ∙ exact_product-one_left (x 0) low)

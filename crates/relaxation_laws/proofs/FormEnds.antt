@@ -1,8 +1,11 @@
 -- What a relaxation's ends show of its form.
+use Rattle.std.specs.Prelude.{replicate}
 use Rattle.std.proofs.Common.{◌≡◌, ◌∙◌, refl, sym, ap, subst, ℕ, suc, ◌<◌, List, [], length, slice_index_or, All, unwrap_or, arith, ℤ}
 use Rattle.frac128.specs.Fraction.{Fraction, zero_value}
 use Rattle.frac128.specs.Order.{IsAtMost, IsBelow}
+use Rattle.frac128.specs.Lowest.{IsInLowestTerms}
 use Rattle.frac128.proofs.Ordered.{IsBelow-negation}
+use Rattle.frac128.proofs.Sums.{◌⊕◌, ◌⊗◌}
 use Rattle.dictionary.specs.declared.standard.Std.{Std}
 use Rattle.dictionary.specs.Dictionary.{Dictionary, IsUniform, entry}
 use Rattle.dictionary.specs.Solutions.{HasNoRise, HasReducedNumbers, IsFeasible, IsLawful, Point, RisesFreely, Solves, objective_at, own_point}
@@ -10,7 +13,6 @@ use Rattle.dictionary.proofs.Points.FreeRise.{along, along-absent, along-columns
 use Rattle.dictionary.proofs.Points.OwnPoint.{objective-reduced, own_point-feasible, own_point-value, total-at_most}
 use Rattle.dictionary.proofs.Points.PhaseOne.{auxiliary_all, no_point}
 use Rattle.solve_defs.specs.Columns.{HasNoColumnsPoint, IsBestColumnsPoint, IsColumnsPoint, RisesAbove, form_value}
-use Rattle.std.specs.Prelude.{replicate}
 use Rattle.solve_defs.specs.Ends.{dual_of, duals, farkas_of, point_of}
 use Rattle.solve_defs.specs.Values.{whole}
 use Rattle.relaxation_laws.specs.FormEnds.{AreAtLeastZero, ShowsBest, ShowsNoPoint}
@@ -20,8 +22,6 @@ use Rattle.relaxation_laws.specs.Reached.{IsInPhaseOne, IsInPhaseTwo, Relaxes}
 use Rattle.relaxation_laws.proofs.Artificial.{basic_constant}
 use Rattle.relaxation_laws.proofs.Bridge.{form_point-feasible, form_point-objective, solution_columns, solution_objective}
 use Rattle.relaxation_laws.proofs.Ending.{duals_at_least, no_artificial_value, point_is_own, w_prices, z_prices}
-use Rattle.frac128.specs.Lowest.{IsInLowestTerms}
-use Rattle.frac128.proofs.Sums.{◌⊕◌, ◌⊗◌}
 
 -- ---- feasible points of the dictionary and of the form
 

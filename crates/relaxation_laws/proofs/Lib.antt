@@ -10,11 +10,9 @@ pub mod Bridge
 pub mod ByIndex
 pub mod ByRule
 pub mod Ending
-pub mod Equalities
 pub mod FirstStep
 pub mod FormEnds
 pub mod KeptForm
-pub mod KeptPath
 pub mod Lifted
 pub mod LowestForm
 pub mod Priced

@@ -3,17 +3,17 @@
 use Rattle.std.proofs.Common.{◌≡◌, ◌∙◌, refl, sym, ap, ap₂, subst, subst₂, suc, List, [], ◌∷◌, length, All, arith}
 use Rattle.std.proofs.lemmas.List.Sums.{sum_by-cons}
 use Rattle.std.proofs.lemmas.List.Elements.{All-cons, All-head, All-nil, All-tail}
+use Rattle.std.proofs.lemmas.Int.{ints}
 use Rattle.frac128.specs.Fraction.{Fraction, negation, one_value, zero_value}
 use Rattle.frac128.specs.Order.{IsAtMost}
+use Rattle.frac128.specs.Lowest.{IsInLowestTerms}
 use Rattle.frac128.proofs.Field.{apart_of-product, apart_of-sum, apart_of-zero, exact_product-negation_left, exact_product-negation_right, exact_product-one_right, exact_product-zero_left, exact_product-zero_right, exact_sum-negation, exact_sum-zero_left, exact_sum-zero_right, exact_sum_assoc, exact_sum_comm, negation-negation}
 use Rattle.frac128.proofs.Ordered.{IsAtMost-product, IsAtMost-self, IsAtMost-sums, IsAtMost_antisymm}
-use Rattle.std.proofs.lemmas.Int.{ints}
+use Rattle.frac128.proofs.Sums.{no_zeros, ◌⊕◌, ◌⊗◌}
 use Rattle.solve_defs.specs.Columns.{columns_sum}
 use Rattle.solve_defs.specs.StandardForm.{Shape, column_count, entries, free, mirrored, shifted, width}
 use Rattle.solve_defs.proofs.FormSums.{columns_sum_low}
-use Rattle.relaxation_laws.proofs.Rising.{negation_low}
-use Rattle.frac128.specs.Lowest.{IsInLowestTerms}
-use Rattle.frac128.proofs.Sums.{no_zeros, ◌⊕◌, ◌⊗◌}
+use Rattle.solve_defs.proofs.FormBounds.{low_negation}
 
 abbrev pub lift : List Shape → List Fraction → List Fraction
 lift [] xs = []
@@ -34,7 +34,7 @@ lift_low [] xs low = All-nil IsInLowestTerms
 lift_low (shape ∷ shapes) [] low = All-nil IsInLowestTerms
 lift_low (shifted l u ∷ shapes) (x ∷ xs) low = All-cons IsInLowestTerms x (lift shapes xs) (All-head IsInLowestTerms x xs low) (lift_low shapes xs (All-tail IsInLowestTerms x xs low))
 lift_low (mirrored u ∷ shapes) (x ∷ xs) low =
-    All-cons IsInLowestTerms (negation x) (lift shapes xs) (negation_low x (All-head IsInLowestTerms x xs low)) (lift_low shapes xs (All-tail IsInLowestTerms x xs low))
+    All-cons IsInLowestTerms (negation x) (lift shapes xs) (low_negation x (All-head IsInLowestTerms x xs low)) (lift_low shapes xs (All-tail IsInLowestTerms x xs low))
 lift_low (free ∷ shapes) (x ∷ xs) low =
     All-cons IsInLowestTerms x (zero_value ∷ lift shapes xs) (All-head IsInLowestTerms x xs low)
     (All-cons IsInLowestTerms zero_value (lift shapes xs) apart_of-zero (lift_low shapes xs (All-tail IsInLowestTerms x xs low)))

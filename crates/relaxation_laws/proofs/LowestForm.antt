@@ -1,14 +1,12 @@
 -- The standard form of a model with numbers in lowest terms has such numbers.
-use Rattle.std.proofs.Common.{◌≡◌, sym, subst, ℕ, ◌+◌, Bool, true, false, cond, List, [], ◌∷◌, ◌++◌, map, length, replicate, slice_index_or, All, Option, Some, None, unwrap_or, Ok}
 use Rattle.std.specs.Prelude.{flat_map, ◌==◌}
+use Rattle.std.proofs.Common.{◌≡◌, sym, subst, ℕ, ◌+◌, Bool, true, false, cond, List, [], ◌∷◌, ◌++◌, map, length, replicate, slice_index_or, All, Option, Some, None, unwrap_or, Ok}
 use Rattle.std.proofs.lemmas.List.Elements.{All-append, All-cons, All-head, All-map, All-nil, All-replicate, All-set, All-tail, All-weaker}
 use Rattle.frac128.specs.Checked.{checked_difference}
 use Rattle.frac128.specs.Lowest.{IsInLowestTerms, IsKept}
 use Rattle.frac128.specs.Fraction.{Fraction, exact_product, negation, one_value, zero_value}
-use Rattle.dictionary.specs.Dictionary.{each, numbers_from}
-use Rattle.dictionary.specs.declared.standard.Std.{Std}
-use Rattle.dictionary.specs.declared.standard.StdRow.{StdRow}
-use Rattle.dictionary.specs.Solutions.{HasReducedNumbers}
+use Rattle.frac128.proofs.Field.{apart_of-one, apart_of-sum, apart_of-zero}
+use Rattle.frac128.proofs.Chains.{difference_is, less_product_is, plus_product_is, same_ok, through}
 use Rattle.model_data.specs.declared.model.Direction.{Direction}
 use Rattle.model_data.specs.declared.model.Direction.TheVariants.{Maximize, Minimize}
 use Rattle.model_data.specs.declared.model.Model.{Model}
@@ -17,14 +15,15 @@ use Rattle.model_data.specs.declared.model.Sense.{Sense}
 use Rattle.model_data.specs.declared.model.Sense.TheVariants.{Equal, Greater, Less}
 use Rattle.model_data.specs.declared.model.Term.{Term}
 use Rattle.model_data.specs.declared.model.Var.{Var}
+use Rattle.model_data.specs.Kept.{HasKeptNumbers, IsKeptRow}
+use Rattle.dictionary.specs.Dictionary.{each, numbers_from}
+use Rattle.dictionary.specs.declared.standard.Std.{Std}
+use Rattle.dictionary.specs.declared.standard.StdRow.{StdRow}
+use Rattle.dictionary.specs.Solutions.{HasReducedNumbers}
 use Rattle.solve_defs.specs.StandardForm.{Shape, by_sense, column_count, column_row, constant_with, entries, entries_of, free, less_offset, mirrored, negated, offset, plus_offset, row_entries, rows_of, shapes_of, shifted, side_less, span_row, span_rows, standard_form, width}
 use Rattle.solve_defs.specs.Values.{coefficient, term_of, turned}
 use Rattle.solve_defs.specs.declared.cut.Cut.{Cut}
-use Rattle.model_data.specs.Kept.{HasKeptNumbers, IsKeptRow}
-use Rattle.relaxation_laws.proofs.Artificial.{IsReduced-one}
-use Rattle.relaxation_laws.proofs.Priced.{reduced_negation}
-use Rattle.frac128.proofs.Field.{apart_of-sum, apart_of-zero}
-use Rattle.frac128.proofs.Chains.{difference_is, less_product_is, plus_product_is, same_ok, through}
+use Rattle.solve_defs.proofs.FormBounds.{low_negation}
 
 kept_reduced : (x : Fraction) → IsKept x → IsInLowestTerms x
 kept_reduced x kept = kept.nothing_in_common
@@ -39,8 +38,8 @@ entries_reduced (shape ∷ shapes) (x ∷ xs) low =
   where
     own : (shape : Shape) (y : Fraction) → IsInLowestTerms y → All IsInLowestTerms (entries_of shape y)
     own (shifted l u) y h = All-cons IsInLowestTerms y [] h (All-nil IsInLowestTerms)
-    own (mirrored u) y h = All-cons IsInLowestTerms (negation y) [] (reduced_negation y h) (All-nil IsInLowestTerms)
-    own free y h = All-cons IsInLowestTerms y (negation y ∷ []) h (All-cons IsInLowestTerms (negation y) [] (reduced_negation y h) (All-nil IsInLowestTerms))
+    own (mirrored u) y h = All-cons IsInLowestTerms (negation y) [] (low_negation y h) (All-nil IsInLowestTerms)
+    own free y h = All-cons IsInLowestTerms y (negation y ∷ []) h (All-cons IsInLowestTerms (negation y) [] (low_negation y h) (All-nil IsInLowestTerms))
 
 coefficient_reduced : (terms : List Term) (place : ℕ) → All (λ t. IsInLowestTerms t.coef) terms → IsInLowestTerms (coefficient terms place)
 coefficient_reduced [] place low = apart_of-zero
@@ -86,7 +85,7 @@ record IsReducedRow (row : StdRow) : Type 0 where
   side : IsInLowestTerms row.rhs
 
 negated_reduced : (row : StdRow) → IsReducedRow row → IsReducedRow (negated row)
-negated_reduced row h = record { coefs = All-map IsInLowestTerms negation row.coefs (All-weaker IsInLowestTerms (λ x. IsInLowestTerms (negation x)) reduced_negation row.coefs h.coefs); side = reduced_negation row.rhs h.side }
+negated_reduced row h = record { coefs = All-map IsInLowestTerms negation row.coefs (All-weaker IsInLowestTerms (λ x. IsInLowestTerms (negation x)) low_negation row.coefs h.coefs); side = low_negation row.rhs h.side }
 
 sense_reduced : (sense : Sense) (row : StdRow) → IsReducedRow row → All IsReducedRow (by_sense sense row)
 sense_reduced Less row h = All-cons IsReducedRow row [] h (All-nil IsReducedRow)
@@ -114,7 +113,7 @@ span_reduced count column (shifted lower (Some upper)) made h =
     let own : StdRow = column_row count column span.value in
     subst (All IsReducedRow) (same_ok (own ∷ []) made span.rest)
     (All-cons IsReducedRow own [] record {
-      coefs = All-set IsInLowestTerms (replicate count zero_value) column one_value IsReduced-one (All-replicate IsInLowestTerms count zero_value apart_of-zero);
+      coefs = All-set IsInLowestTerms (replicate count zero_value) column one_value apart_of-one (All-replicate IsInLowestTerms count zero_value apart_of-zero);
       side = subst IsInLowestTerms (sym (difference_is upper lower span.value span.first)) (apart_of-sum upper (negation lower));
     } (All-nil IsReducedRow))
 span_reduced count column (shifted lower None) made h = subst (All IsReducedRow) (same_ok [] made h) (All-nil IsReducedRow)
@@ -132,7 +131,7 @@ spans_reduced count column (shape ∷ shapes) made h =
 -- ---- the form
 
 turned_reduced : (direction : Direction) (x : Fraction) → IsInLowestTerms x → IsInLowestTerms (turned direction x)
-turned_reduced Minimize x low = reduced_negation x low
+turned_reduced Minimize x low = low_negation x low
 turned_reduced Maximize x low = low
 
 pub form_reduced : (m : Model) (cuts : List Cut) (s : Std) → HasKeptNumbers m → standard_form m cuts ≡ Ok s → HasReducedNumbers s

@@ -5,7 +5,9 @@ use Rattle.std.proofs.lemmas.Bool.{cases_lt, le-ltb, lt-ltb}
 use Rattle.std.proofs.lemmas.List.{get_or-map, get_or_past, length-map, length-replicate}
 use Rattle.std.proofs.lemmas.List.Elements.{All-head, All-map, All-replicate, All-tail}
 use Rattle.frac128.specs.Fraction.{Fraction, exact_difference, negation, one_value, zero_value}
-use Rattle.frac128.proofs.Field.{apart_of-product, apart_of-sum, apart_of-zero, exact_product-negation_left, exact_product-sum_right, exact_product-zero_right, exact_product_comm, exact_sum-zero_left, exact_sum-zero_right, negation-negation, negation-sum}
+use Rattle.frac128.specs.Lowest.{IsInLowestTerms}
+use Rattle.frac128.proofs.Field.{apart_of-product, apart_of-sum, apart_of-zero, exact_product-negation_left, exact_product-sum_right, exact_product-zero_right, exact_product_comm, exact_sum-zero_left, exact_sum-zero_right, negation-negation}
+use Rattle.frac128.proofs.Sums.{minus, minus-sum, minus_is, product-minus, sum-minus, sums, total, total-same, ◌⊕◌, ◌⊗◌}
 use Rattle.dictionary.specs.declared.standard.Std.{Std}
 use Rattle.dictionary.specs.declared.standard.StdRow.{StdRow}
 use Rattle.dictionary.specs.Dictionary.{Dictionary, IsUniform, entry, numbers_from}
@@ -19,13 +21,12 @@ use Rattle.solve_defs.specs.Ends.{column_of, duals, weight_in, weight_of}
 use Rattle.solve_defs.specs.Values.{value_at}
 use Rattle.solve_defs.proofs.FormSums.{columns_sum_low, one_column}
 use Rattle.solve_defs.proofs.Places.{places}
+use Rattle.solve_defs.proofs.FormBounds.{low_negation}
 use Rattle.relaxation_laws.specs.FormPoints.{form_point}
 use Rattle.relaxation_laws.specs.FormWeights.{Prices, weighted, weighted_sides, weighted_values}
 use Rattle.relaxation_laws.specs.Reached.{Relaxes}
 use Rattle.relaxation_laws.proofs.Bridge.{left_over, slack_is, value_column, value_slack}
 use Rattle.relaxation_laws.proofs.ByIndex.{by_index, in_parts, look}
-use Rattle.frac128.specs.Lowest.{IsInLowestTerms}
-use Rattle.frac128.proofs.Sums.{minus, minus-sum, minus_is, product-minus, sum-minus, sums, total, total-same, ◌⊕◌, ◌⊗◌}
 
 -- ---- factors
 
@@ -163,16 +164,12 @@ unit_length n j = length-set (replicate n zero_value) j one_value ∙ length-rep
 
 -- ---- reduced weights
 
-pub reduced_negation : (x : Fraction) → IsInLowestTerms x → IsInLowestTerms (negation x)
-reduced_negation x low =
-    subst (λ y. IsInLowestTerms (negation y)) (exact_sum-zero_right x low) (subst IsInLowestTerms (sym (negation-sum x zero_value)) (apart_of-sum (negation x) (negation zero_value)))
-
 pub weight_low : (d : Dictionary) (row : List Fraction) → All IsInLowestTerms row → (u : ℕ) → IsInLowestTerms (weight_of d row u)
 weight_low d row low u = of_option (column_of d u)
   where
     of_option : (o : Option ℕ) → IsInLowestTerms (weight_in row o)
     of_option None = apart_of-zero
-    of_option (Some p) = reduced_negation (entry row (suc p)) (read (cases_lt (suc p) (length row)))
+    of_option (Some p) = low_negation (entry row (suc p)) (read (cases_lt (suc p) (length row)))
       where
         read : (suc p < length row) ⊎ (length row ≤ suc p) → IsInLowestTerms (entry row (suc p))
         read cases = ⊎_elim (λ within. low (suc p) zero_value within) (λ past. subst IsInLowestTerms (sym (get_or_past row (suc p) zero_value past)) apart_of-zero) cases
@@ -193,7 +190,7 @@ side_from k total w low_k low low_w h =
 
     less_none : minus zero_value ⊕ minus w ≡ minus w
     less_none =
-        let negated = reduced_negation w low_w in
+        let negated = low_negation w low_w in
         ap (λ s. s ⊕ minus w) (minus_is zero_value) ∙ exact_sum-zero_left (minus w) (subst (λ s. IsInLowestTerms s) (sym (minus_is w)) negated)
 
 coefficient_from : (k w a r c : Fraction) → IsInLowestTerms c → (k ⊕ w) ⊕ (minus r ⊕ minus (w ⊕ minus a)) ≡ k ⊕ c → c ≡ a ⊕ minus r

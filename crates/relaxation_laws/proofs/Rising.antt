@@ -6,9 +6,11 @@ use Rattle.std.proofs.lemmas.List.{get_or_past, length-map}
 use Rattle.std.proofs.lemmas.List.Elements.{All-from_get_or, All-get_or, All-map}
 use Rattle.frac128.specs.Fraction.{Fraction, negation, one_value, zero_value}
 use Rattle.frac128.specs.Order.{IsAtMost, IsBelow}
-use Rattle.frac128.proofs.Field.{apart_of-zero, exact_product-one_right, exact_product-sum_right, exact_sum-zero_left, exact_sum_assoc, negation-negation, negation-sum}
+use Rattle.frac128.specs.Lowest.{IsInLowestTerms}
+use Rattle.frac128.proofs.Field.{apart_of-one, apart_of-zero, exact_product-one_right, exact_product-sum_right, exact_sum-zero_left, exact_sum_assoc, negation-negation, negation-sum}
 use Rattle.frac128.proofs.Kept.{IsKept-one}
 use Rattle.frac128.proofs.Ordered.{IsAtMost-negation, IsAtMost-self}
+use Rattle.frac128.proofs.Sums.{interchange, minus, minus_is, no_zeros, sum-minus, sums, ◌⊕◌, ◌⊗◌}
 use Rattle.dictionary.specs.declared.standard.Std.{Std}
 use Rattle.dictionary.specs.declared.standard.StdRow.{StdRow}
 use Rattle.dictionary.specs.Dictionary.{Dictionary, entry, numbers_from}
@@ -20,16 +22,13 @@ use Rattle.dictionary.proofs.Points.OwnPoint.{own_point-nonbasic, own_point-solv
 use Rattle.solve_defs.specs.Columns.{IsColumnsPoint, columns_sum}
 use Rattle.solve_defs.specs.Ends.{basic_row, point_of, ray_of, rise_in, rise_of}
 use Rattle.solve_defs.proofs.FormSums.{columns_sum_low}
+use Rattle.solve_defs.proofs.FormBounds.{low_negation}
 use Rattle.relaxation_laws.specs.FormEnds.{IsStdRay}
 use Rattle.relaxation_laws.specs.FormPoints.{columns_of}
 use Rattle.relaxation_laws.specs.Reached.{IsInPhaseTwo, Relaxes}
-use Rattle.relaxation_laws.proofs.Artificial.{IsReduced-one}
 use Rattle.relaxation_laws.proofs.Bridge.{solution_rows}
 use Rattle.relaxation_laws.proofs.Ending.{no_artificial_value}
 use Rattle.relaxation_laws.proofs.FormEnds.{point_allowed, value_back}
-use Rattle.relaxation_laws.proofs.Priced.{reduced_negation}
-use Rattle.frac128.specs.Lowest.{IsInLowestTerms}
-use Rattle.frac128.proofs.Sums.{interchange, minus, minus_is, no_zeros, sum-minus, sums, ◌⊕◌, ◌⊗◌}
 
 -- ---- how each variable rises
 
@@ -102,8 +101,8 @@ rise_at_least d j v lawful free =
 rise_low : (d : Dictionary) (j v : ℕ) → IsLawful d → IsInLowestTerms (rise_of d (suc j) v)
 rise_low d j v lawful =
     ⊎_elim
-    (λ same. subst (λ u. IsInLowestTerms (rise_of d (suc j) u)) (sym same) (subst IsInLowestTerms (sym (rise_own d j)) IsReduced-one))
-    (λ other. subst IsInLowestTerms (sym (rise_other d j v lawful other)) (reduced_negation _ (entry_low d (place_of d.basic v) (suc j) lawful)))
+    (λ same. subst (λ u. IsInLowestTerms (rise_of d (suc j) u)) (sym same) (subst IsInLowestTerms (sym (rise_own d j)) apart_of-one))
+    (λ other. subst IsInLowestTerms (sym (rise_other d j v lawful other)) (low_negation _ (entry_low d (place_of d.basic v) (suc j) lawful)))
     (cases_eq v (slice_index d.nonbasic j))
 
 -- ---- sums along it
@@ -128,9 +127,6 @@ cancel p a b low_a low_b same = sym (taken a low_a) ∙ ap (λ s. minus p ⊕ s)
         turned : (r t : Fraction) → minus r ⊕ (r ⊕ t) ≡ (r ⊕ minus r) ⊕ t
         turned r t = simp sums
 
-pub negation_low : (x : Fraction) → IsInLowestTerms x → IsInLowestTerms (negation x)
-negation_low x low = reduced_negation x low
-
 -- a row's sum along the direction is what its slack rises by, negated
 row_sum : (s : Std) (d : Dictionary) (j i : ℕ) (row : StdRow) → Relaxes s d → IsInPhaseTwo d → j < length d.nonbasic → i < length s.rows
     → columns_sum (get_or s.rows i row).coefs (columns_of s (rise_of d (suc j))) ≡ negation (rise_of d (suc j) (suc (length s.obj) + i))
@@ -145,11 +141,11 @@ row_sum s d j i row h phase column_within within =
     let reduced = rise_low d j v lawful in
     let there = along j one_value d in
     let none = along-absent j one_value d lawful column_within phase.others in
-    let after : there v ≡ here.rhs ⊕ negation (a ⊕ b) = solution_rows s there i row ((h.solutions there none).0 (along-solves j one_value d lawful column_within IsReduced-one)) within ∙ ap (λ t. here.rhs ⊕ negation t) (sum_along s d j here.coefs lawful column_within) in
+    let after : there v ≡ here.rhs ⊕ negation (a ⊕ b) = solution_rows s there i row ((h.solutions there none).0 (along-solves j one_value d lawful column_within apart_of-one)) within ∙ ap (λ t. here.rhs ⊕ negation t) (sum_along s d j here.coefs lawful column_within) in
     let before : own_point d v ≡ here.rhs ⊕ negation a = solution_rows s (own_point d) i row ((h.solutions (own_point d) (no_artificial_value d lawful phase)).0 (own_point-solves d lawful)) within in
     let both : (here.rhs ⊕ negation a) ⊕ negation b ≡ (here.rhs ⊕ negation a) ⊕ rise =
     exact_sum_assoc here.rhs (negation a) (negation b) ∙ ap (λ t. here.rhs ⊕ t) (sym (negation-sum a b)) ∙ sym after ∙ along_is d j v lawful column_within ∙ ap (λ t. t ⊕ rise) before in
-    sym (negation-negation b) ∙ ap negation (cancel (here.rhs ⊕ negation a) (negation b) rise (negation_low b low_b) reduced both)
+    sym (negation-negation b) ∙ ap negation (cancel (here.rhs ⊕ negation a) (negation b) rise (low_negation b low_b) reduced both)
 
 objective_sum : (s : Std) (d : Dictionary) (j : ℕ) → Relaxes s d → IsInPhaseTwo d → j < length d.nonbasic → columns_sum s.obj (columns_of s (rise_of d (suc j))) ≡ entry d.objective (suc j)
 objective_sum s d j h phase within =
@@ -162,7 +158,7 @@ objective_sum s d j h phase within =
     let wide = lawful.shape.objective_entries in
     let low_c : IsInLowestTerms c = lawful.reduced.objective (suc j) zero_value (omega (arith, wide, within)) in
     let none = along-absent j one_value d lawful within phase.others in
-    let solves = along-solves j one_value d lawful within IsReduced-one in
+    let solves = along-solves j one_value d lawful within apart_of-one in
     let after : s.constant ⊕ (a ⊕ b) ≡ z ⊕ c =
     ap (λ t. s.constant ⊕ t) (sym (sum_along s d j s.obj lawful within)) ∙ value_back s d there h none solves
     ∙ ap (λ t. z ⊕ t) (along-columns j one_value d d.objective lawful within wide ∙ exact_product-one_right c low_c) in

@@ -1,44 +1,38 @@
 -- What each relaxation shows at its end.
 use Rattle.std.proofs.Common.{◌≡◌, ap, ap₂, refl, sym, subst, List, [], Ok}
 use Rattle.frac128.specs.Fraction.{Fraction}
-use Rattle.dictionary.specs.Dictionary.{Dictionary, IsUniform, entry}
-use Rattle.dictionary.specs.Solutions.{HasReducedNumbers}
-use Rattle.solve_defs.specs.Points.{IsBestPoint, relaxation}
-use Rattle.dictionary.specs.declared.standard.Std.{Std}
 use Rattle.model_data.specs.Lawful.{IsLawful}
 use Rattle.model_data.specs.declared.model.Model.{Model}
-use Rattle.model_data.specs.declared.solution.Weights.{Weights}
+use Rattle.model_data.specs.declared.solution.Point.{Point}
+use Rattle.model_data.specs.Kept.{HasKeptNumbers}
+use Rattle.dictionary.specs.Dictionary.{Dictionary, IsUniform, entry}
+use Rattle.dictionary.specs.Solutions.{HasReducedNumbers}
+use Rattle.dictionary.specs.declared.standard.Std.{Std}
+use Rattle.solve_defs.specs.Points.{IsBestPoint, relaxation}
 use Rattle.solve_defs.specs.Ends.{dual_of, farkas_of, point_of, ray_of}
 use Rattle.solve_defs.specs.Path.{an_end, coming}
-use Rattle.solve_defs.specs.StandardForm.{point_back, shapes_of, standard_form}
+use Rattle.solve_defs.specs.StandardForm.{point_back, shapes_of}
 use Rattle.solve_defs.specs.Values.{turned}
 use Rattle.solve_defs.specs.declared.cut.Cut.{Cut}
-use Rattle.solve_defs.specs.declared.solving.LpEnd.TheVariants.{Best, NoPoint}
-use Rattle.model_data.specs.declared.solution.Point.{Point}
+use Rattle.solve_defs.specs.declared.solving.LpEnd.TheVariants.{Best}
+use Rattle.solve_defs.specs.Relaxations.{IsReached, RelaxationLaw}
 use Rattle.solve_defs.proofs.FormEnds.{best_columns, unbounded_columns}
 use Rattle.solve_defs.proofs.FormLaw.{point_back_is_exact}
-use Rattle.model_data.specs.Kept.{HasKeptNumbers}
-use Rattle.solve_defs.specs.Relaxations.{IsReached, RelaxationLaw}
+use Rattle.solve_defs.proofs.FormSizes.{form-uniform}
+use Rattle.relaxation_laws.specs.Reached.{Reached}
 use Rattle.relaxation_laws.proofs.Back.{bound_back, farkas_back}
 use Rattle.relaxation_laws.proofs.BackRay.{ray_holds}
 use Rattle.relaxation_laws.proofs.LowestForm.{form_reduced}
 use Rattle.relaxation_laws.proofs.Whole.{best_end, model_reached, no_point_end, unbounded_end}
-use Rattle.solve_defs.specs.StandardForm.{weights_back}
-use Rattle.relaxation_laws.specs.KeptEntries.{HasKeptEntries, HasKeptForm}
-use Rattle.relaxation_laws.specs.Reached.{Reached}
-use Rattle.relaxation_laws.proofs.Ending.{EndsAt, at_best, at_no_point, ends_at}
-use Rattle.relaxation_laws.proofs.Equalities.{best_weights_come, farkas_weights_come}
-use Rattle.relaxation_laws.proofs.KeptPath.{dual_fits, farkas_fits, path_fits}
-use Rattle.solve_defs.proofs.FormSizes.{form-uniform}
 
 -- ---- what is known of a relaxation under way
 
-record Known (s : Std) (d : Dictionary) : Type 0 where
-  uniform : IsUniform s
-  lowest : HasReducedNumbers s
-  reached : Reached s d
+pub record Known (s : Std) (d : Dictionary) : Type 0 where
+  pub uniform : IsUniform s
+  pub lowest : HasReducedNumbers s
+  pub reached : Reached s d
 
-known : (m : Model) (cuts : List Cut) (d : Dictionary) → IsLawful m → HasKeptNumbers m → (reached : IsReached m cuts d) → Known reached.form d
+pub known : (m : Model) (cuts : List Cut) (d : Dictionary) → IsLawful m → HasKeptNumbers m → (reached : IsReached m cuts d) → Known reached.form d
 known m cuts d lawful low reached =
     let s = reached.form in
     record {
@@ -46,27 +40,6 @@ known m cuts d lawful low reached =
       lowest = form_reduced m cuts s low reached.is_form;
       reached = model_reached m cuts s reached.pivots d lawful low reached.is_form reached.path;
     }
-
--- ---- weights that come back
-
--- The weights of a relaxation that ends come back.
-pub end_weights : (m : Model) (cuts : List Cut) (d : Dictionary) → IsLawful m → HasKeptNumbers m → (reached : IsReached m cuts d) → HasKeptForm reached.form → coming d ≡ an_end Best → (weights : Weights) × (weights_back m (shapes_of m cuts) (dual_of d).ys (dual_of d).reduced ≡ Ok weights)
-end_weights m cuts d lawful low reached fits comes =
-    let s = reached.form in
-    let is = known m cuts d lawful low reached in
-    of_end s d (path_fits s reached.pivots d is.uniform is.lowest fits reached.path) is.reached (ends_at s d Best is.reached comes) reached.is_form
-  where
-    of_end : (s : Std) (d : Dictionary) → HasKeptEntries d → Reached s d → EndsAt s d Best → standard_form m cuts ≡ Ok s → (weights : Weights) × (weights_back m (shapes_of m cuts) (dual_of d).ys (dual_of d).reduced ≡ Ok weights)
-    of_end s d kept reached (at_best phase falls) form = best_weights_come m cuts s d form reached.relaxes phase (dual_fits d kept)
-
-pub end_farkas_weights : (m : Model) (cuts : List Cut) (d : Dictionary) → IsLawful m → HasKeptNumbers m → (reached : IsReached m cuts d) → HasKeptForm reached.form → coming d ≡ an_end NoPoint → (weights : Weights) × (weights_back m (shapes_of m cuts) (farkas_of d).ys (farkas_of d).reduced ≡ Ok weights)
-end_farkas_weights m cuts d lawful low reached fits comes =
-    let s = reached.form in
-    let is = known m cuts d lawful low reached in
-    of_end s d (path_fits s reached.pivots d is.uniform is.lowest fits reached.path) is.reached (ends_at s d NoPoint is.reached comes) reached.is_form
-  where
-    of_end : (s : Std) (d : Dictionary) → HasKeptEntries d → Reached s d → EndsAt s d NoPoint → standard_form m cuts ≡ Ok s → (weights : Weights) × (weights_back m (shapes_of m cuts) (farkas_of d).ys (farkas_of d).reduced ≡ Ok weights)
-    of_end s d kept reached (at_no_point w phase falls) form = farkas_weights_come m cuts s d w form reached.relaxes phase (farkas_fits d w phase.is_w kept)
 
 -- ---- each end
 

@@ -1,7 +1,7 @@
 -- Among equal ratios the artificial variable leaves first, so that it is above 0 wherever it stays basic.
-use Rattle.std.proofs.Common.{◌≡◌, ◌∙◌, ⊎_elim, refl, sym, ap, subst, ℕ, zero, suc, ◌+◌, ◌<◌, ◌≤◌, Bool, true, false, true≢false, cond, List, [], ◌∷◌, length, filter, slice_index, slice_index_or, All, Ok, pos, Ordering, Less, Equal, Greater, arith, ltb-true, ltb-false}
 use Rattle.std.specs.Prelude.{◌*ℤ◌}
 use Rattle.std.specs.Ordering.{MatchOrdering}
+use Rattle.std.proofs.Common.{◌≡◌, ◌∙◌, ⊎_elim, refl, sym, ap, subst, ℕ, zero, suc, ◌+◌, ◌<◌, ◌≤◌, Bool, true, false, true≢false, cond, List, [], ◌∷◌, length, filter, slice_index, slice_index_or, All, Ok, pos, Ordering, Less, Equal, Greater, arith, ltb-true, ltb-false}
 use Rattle.std.proofs.lemmas.Bool.{cases_order}
 use Rattle.std.proofs.lemmas.List.Elements.{All-cons, All-head, All-nil, All-tail, All-weaker}
 use Rattle.frac128.specs.Checked.{checked_quotient}
@@ -9,8 +9,11 @@ use Rattle.frac128.specs.Fraction.{Fraction, den, exact_quotient, zero_value}
 use Rattle.frac128.specs.Fits.{quotient_fits}
 use Rattle.frac128.specs.Order.{IsAtMost, IsBelow, order_of}
 use Rattle.frac128.specs.declared.operations.Op.TheVariants.{Div}
+use Rattle.frac128.specs.Lowest.{IsInLowestTerms}
 use Rattle.frac128.proofs.Field.{exact_product_comm, exact_quotient-product}
 use Rattle.frac128.proofs.Ordered.{IsAtMost-self, IsAtMost_trans, IsBelow-not, IsBelow-product, IsBelow-sum, cases_below, order_of-tells}
+use Rattle.frac128.proofs.Chains.{fitting, same_ok, through}
+use Rattle.frac128.proofs.Sums.{minus, sum-minus, ◌⊕◌, ◌⊗◌}
 use Rattle.dictionary.specs.Dictionary.{Dictionary, each, entry}
 use Rattle.dictionary.specs.Rule.{Ratio, RowAhead, is_positive, leaves_before, leaves_before_by, leaving_row, ratio_of, ratios, rows_from}
 use Rattle.dictionary.specs.Solutions.{IsLawful, PivotsByRule}
@@ -19,9 +22,6 @@ use Rattle.dictionary.proofs.Points.ExactPivot.{other_row}
 use Rattle.dictionary.proofs.Points.FreeRise.{not_zero, row_along}
 use Rattle.dictionary.proofs.Points.Lawful.{Turns, replaced-other}
 use Rattle.dictionary.proofs.Points.OwnPoint.{distinct_left}
-use Rattle.frac128.specs.Lowest.{IsInLowestTerms}
-use Rattle.frac128.proofs.Chains.{fitting, same_ok, through}
-use Rattle.frac128.proofs.Sums.{minus, sum-minus, ◌⊕◌, ◌⊗◌}
 
 -- ---- the ratios and their rows
 

@@ -1,18 +1,19 @@
 -- The laws of a relaxation, as its dictionaries on the path meet them.
 use Rattle.std.proofs.Common.{◌≡◌, sym, ap, subst, ℕ, true, cond, List, [], unwrap_or, Ok}
+use Rattle.model_data.specs.Lawful.{IsLawful}
+use Rattle.model_data.specs.declared.model.Model.{Model}
+use Rattle.model_data.specs.Kept.{HasKeptNumbers}
 use Rattle.dictionary.specs.Dictionary.{Dictionary, IsUniform, entry, needs_phase_one, opening}
 use Rattle.dictionary.specs.Rule.{entering_column}
 use Rattle.dictionary.specs.Solutions.{HasFeasibleConstants, HasReducedNumbers}
 use Rattle.dictionary.specs.declared.standard.Std.{Std}
-use Rattle.model_data.specs.Lawful.{IsLawful}
-use Rattle.model_data.specs.declared.model.Model.{Model}
 use Rattle.solve_defs.specs.Ends.{farkas_of}
 use Rattle.solve_defs.specs.Path.{Path, a_pivot, an_end, artificial, coming, coming_by_rule}
 use Rattle.solve_defs.specs.StandardForm.{standard_form}
 use Rattle.solve_defs.specs.declared.cut.Cut.{Cut}
 use Rattle.solve_defs.specs.declared.solving.LpEnd.TheVariants.{Best, NoPoint, Unbounded}
+use Rattle.solve_defs.proofs.FormSizes.{form-uniform}
 use Rattle.relaxation_laws.specs.FormEnds.{BestEnd, NoPointEnd, ShowsNoPoint, UnboundedEnd}
-use Rattle.model_data.specs.Kept.{HasKeptNumbers}
 use Rattle.relaxation_laws.specs.Reached.{Phase, Reached, at_opening, in_phase_one, in_phase_two}
 use Rattle.relaxation_laws.proofs.ByRule.{awaits_none, comes_by_rule}
 use Rattle.relaxation_laws.proofs.Ending.{EndsAt, at_best, at_no_point, at_unbounded, ends_at}
@@ -21,7 +22,6 @@ use Rattle.relaxation_laws.proofs.FormEnds.{best_point, best_value, best_weights
 use Rattle.relaxation_laws.proofs.LowestForm.{form_reduced}
 use Rattle.relaxation_laws.proofs.Rising.{ray_rises}
 use Rattle.relaxation_laws.proofs.Steps.{path_reached}
-use Rattle.solve_defs.proofs.FormSizes.{form-uniform}
 
 -- ---- the artificial variable's pivot
 

@@ -2,6 +2,7 @@
 use Rattle.std.specs.Prelude.{◌≡◌, [], All, length, replicate, unwrap_or}
 use Rattle.frac128.specs.Fraction.{Fraction, zero_value}
 use Rattle.frac128.specs.Order.{IsAtMost, IsBelow}
+use Rattle.frac128.specs.Lowest.{IsInLowestTerms}
 use Rattle.dictionary.specs.Dictionary.{Dictionary, entry}
 use Rattle.dictionary.specs.declared.standard.Std.{Std}
 use Rattle.solve_defs.specs.Columns.{HasNoColumnsPoint, IsBestColumnsPoint, IsColumnsPoint, RisesWithoutBound, columns_sum, form_value}
@@ -9,7 +10,6 @@ use Rattle.solve_defs.specs.Ends.{dual_of, farkas_of, point_of, ray_of}
 use Rattle.solve_defs.specs.declared.solving.Duals.{Duals}
 use Rattle.solve_defs.specs.declared.solving.StdRay.{StdRay}
 use Rattle.relaxation_laws.specs.FormWeights.{Prices}
-use Rattle.frac128.specs.Lowest.{IsInLowestTerms}
 
 -- No weight is below 0, and each is in lowest terms.
 pub record AreAtLeastZero (weights : Duals) : Type 0 where

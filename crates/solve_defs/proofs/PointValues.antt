@@ -172,3 +172,11 @@ at_most_shown x y most = shown (order_of x y) (order_of-tells x y)
 
 pub same_shown : (x y : Fraction) → x.num *ℤ pos (den y) ≡ y.num *ℤ pos (den x) → IsTrue (is_same x y)
 same_shown x y same = ap is_eq (sym (int_cmp_is (x.num *ℤ pos (den y)) (y.num *ℤ pos (den x)) Equal same))
+
+pub below_shown : (x y : Fraction) → IsBelow x y → IsTrue (is_below x y)
+below_shown x y below = shown (order_of x y) (order_of-tells x y)
+  where
+    shown : (r : Ordering) → MatchOrdering r (IsBelow x y) (x.num *ℤ pos (den y) ≡ y.num *ℤ pos (den x)) (IsBelow y x) → IsTrue (is_lt r)
+    shown Less h = refl
+    shown Equal h = let less = below.below in absurd (omega (arith, ints, less, h))
+    shown Greater h = let less = below.below in let more = h.below in absurd (omega (arith, ints, less, more))

@@ -1,6 +1,5 @@
 -- The points along a ray: they are feasible, and some are better than each whole number.
 use Rattle.std.proofs.Common.{◌≡◌, refl, sym, ◌∙◌, ap, ap₂, subst, subst₂, ⊎_elim, ℕ, zero, suc, ◌+◌, ◌<◌, pos, ◌*ℤ◌, false, IsTrue, ◌&&◌, ◌||◌, not, List, [], ◌∷◌, ◌++◌, map, zip, length, flat_map, Option, Some, None, is_none, All, arith}
-use Rattle.std.specs.Int.{IsGcd}
 use Rattle.std.specs.List.{enumerate_from, list_any}
 use Rattle.std.proofs.lemmas.Bool.{and_from, and_parts, not_from_false, or_left, or_parts}
 use Rattle.std.proofs.lemmas.Int.{ints}
@@ -8,7 +7,7 @@ use Rattle.std.proofs.lemmas.List.Elements.{All-append, All-cons, All-head, All-
 use Rattle.frac128.specs.Fraction.{Fraction, den, exact_sum, inverse, negation, one_value, zero_value}
 use Rattle.frac128.specs.Order.{IsAtMost, IsBelow}
 use Rattle.frac128.proofs.Field.{apart_of-sum, exact_product-inverse, exact_product-negation_right, exact_product-one_left, exact_product-one_right, exact_product-sum, exact_product-sum_right, exact_product-zero_left, exact_product-zero_right, exact_product_assoc, exact_product_comm, exact_sum-negation, exact_sum-zero_left, exact_sum-zero_right, exact_sum_assoc, exact_sum_comm, lowest-apart, negation-negation, negation-sum}
-use Rattle.frac128.proofs.Integers.{lt_of_le_not, size-neg}
+use Rattle.frac128.proofs.Integers.{lt_of_le_not}
 use Rattle.frac128.proofs.Ordered.{IsAtMost-difference, IsAtMost-product, IsAtMost-self, IsAtMost-sums, IsAtMost_trans, IsBelow-negation, IsBelow-not, IsBelow-product, IsBelow-sum, IsBelow_trans, IsBelow_trans_right, above_zero, cases_below}
 use Rattle.frac128.proofs.Seen.{lowest-same}
 use Rattle.model_data.specs.Size.{is_integer}
@@ -27,6 +26,7 @@ use Rattle.solve_defs.specs.Looks.{Holds, Look, plus_times, total_of}
 use Rattle.solve_defs.specs.Points.{Below, IsBetter, IsFeasiblePoint, IsUnbounded, Ratio, objective_value, quotient, ratio}
 use Rattle.solve_defs.specs.Values.{has_integers, is_at_most, is_whole, value_at}
 use Rattle.solve_defs.specs.declared.verdict.Place.TheVariants.{RayRow}
+use Rattle.solve_defs.proofs.FormBounds.{low_negation}
 use Rattle.solve_defs.proofs.KeptPoints.{from_zero, kept_point, same_by}
 use Rattle.solve_defs.proofs.LeafBounds.{All-left, All-right, objective_den}
 use Rattle.solve_defs.proofs.LeafShares.{kept}
@@ -300,9 +300,6 @@ low-below : (r s : Ratio) → 0 < r.den → 0 < s.den → IsBelow (low r) (low s
 low-below r s r_some s_some h =
     lt_of_le_not (r.num *ℤ pos s.den) (s.num *ℤ pos r.den) (λ most. IsBelow-not (low r) (low s) h (at_most-low s r s_some r_some most))
 
-apart_of-negation : (x : Fraction) → IsInLowestTerms x → IsInLowestTerms (negation x)
-apart_of-negation x low_x = subst (λ k. IsGcd k (den x) 1) (sym (size-neg x.num)) low_x
-
 -- how far along the objective, which the ray makes better, is better than a number
 record Better (direction : Direction) (a g y : Fraction) : Type 0 where
   pub t : Fraction
@@ -321,7 +318,7 @@ better_far Maximize a y r gain =
 better_far Minimize a y r gain =
     let g = low (ratio r) in
     let below = IsBelow_trans_right g r zero_value (low_below r) (below_holds r zero_value gain) in
-    let found = far (negation a) (negation g) (negation y) (apart_of-negation g (lowest-apart r.num (den r) (omega arith))) (IsBelow-negation g zero_value below) in
+    let found = far (negation a) (negation g) (negation y) (low_negation g (lowest-apart r.num (den r) (omega arith))) (IsBelow-negation g zero_value below) in
     let turned_back : negation a ⊕ found.t ⊗ negation g ≡ negation (a ⊕ found.t ⊗ g) =
     ap (λ s. negation a ⊕ s) (exact_product-negation_right found.t g) ∙ sym (negation-sum a (found.t ⊗ g)) in
     record {

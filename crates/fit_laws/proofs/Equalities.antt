@@ -1,67 +1,52 @@
 -- The two rows of an equality never both have a weight in phase two: with both slacks nonbasic one could be 1 and the other 0.
-use Rattle.std.proofs.Common.{◌≡◌, ◌∙◌, ◌⊎◌, ⊎_elim, inl, inr, sym, ap, ℕ, suc, ◌+◌, ◌<◌, ◌≤◌, cond, List, length, get_or, slice_index, Some, None, pos, arith, eqb-true, ◌==◌}
+use Rattle.std.specs.Prelude.{flat_map, sum_by, unwrap_or}
+use Rattle.std.specs.Ordering.{int_eq}
+use Rattle.std.proofs.Common.{◌≡◌, ◌∙◌, ◌⊎◌, ⊎_elim, inl, inr, sym, ap, ℕ, suc, ◌+◌, ◌<◌, ◌≤◌, cond, List, length, get_or, slice_index, Some, None, pos, arith, eqb-true, ◌==◌, [], ◌∷◌, ◌++◌, All, append_assoc, drop, refl, subst, true, Ok, ◌≢◌, Bool, true≢false, false, ℤ}
 use Rattle.std.proofs.lemmas.Int.{ints}
-use Rattle.std.proofs.lemmas.Bool.{cases_lt, le-ltb}
-use Rattle.std.proofs.lemmas.List.{get_or-map}
+use Rattle.std.proofs.lemmas.Bool.{cases_lt, le-ltb, lt-ltb}
+use Rattle.std.proofs.lemmas.List.{get_or-map, get_or_past}
 use Rattle.std.proofs.lemmas.List.Sums.{passes_at_first}
-use Rattle.frac128.specs.Fraction.{Fraction, negation, one_value, zero_value}
-use Rattle.frac128.proofs.Field.{apart_of-product, negation-negation, negation-sum}
-use Rattle.dictionary.specs.declared.standard.Std.{Std}
-use Rattle.dictionary.specs.declared.standard.StdRow.{StdRow}
-use Rattle.dictionary.specs.Dictionary.{Dictionary, numbers_from}
-use Rattle.dictionary.proofs.Opened.{length-numbers_from}
-use Rattle.dictionary.proofs.Points.FreeRise.{along, along-absent, along-basic, along-nonbasic, along-own, along-solves}
-use Rattle.dictionary.proofs.Points.OwnPoint.{place_of}
-use Rattle.solve_defs.specs.Columns.{columns_sum}
-use Rattle.solve_defs.specs.Ends.{duals, weight_in, weight_of}
-use Rattle.solve_defs.specs.StandardForm.{negated}
-use Rattle.solve_defs.specs.Values.{value_at}
-use Rattle.solve_defs.proofs.FormSums.{columns_sum-negation}
-use Rattle.relaxation_laws.specs.FormPoints.{columns_of}
-use Rattle.relaxation_laws.specs.Reached.{IsInPhaseTwo, Relaxes}
-use Rattle.relaxation_laws.proofs.Artificial.{IsReduced-one}
-use Rattle.relaxation_laws.proofs.Bridge.{left_over, number_at, solution_rows}
-use Rattle.relaxation_laws.proofs.Priced.{ys_are}
-use Rattle.std.proofs.Common.{[], ◌∷◌, ◌++◌, All, append_assoc, drop, refl, subst, true, Ok}
-use Rattle.std.specs.Prelude.{flat_map, sum_by}
-use Rattle.std.proofs.lemmas.List.{get_or_past}
+use Rattle.std.proofs.lemmas.Bool.Decides.{Decides-int_eq}
+use Rattle.frac128.specs.Fraction.{Fraction, negation, one_value, zero_value, exact_difference, exact_quotient, inverse}
 use Rattle.frac128.specs.Checked.{checked_difference, value_or_wide, ◌>>=◌}
 use Rattle.frac128.specs.Fits.{difference_fits}
-use Rattle.frac128.specs.Fraction.{exact_difference}
 use Rattle.frac128.specs.Lowest.{IsInLowestTerms, IsKept}
 use Rattle.frac128.specs.declared.operations.Op.TheVariants.{Sub}
+use Rattle.frac128.specs.Order.{IsAtMost}
+use Rattle.frac128.proofs.Field.{apart_of-one, apart_of-product, negation-negation, negation-sum, exact_product-zero_right, exact_product_comm, exact_quotient-product, exact_sum-zero_left}
 use Rattle.frac128.proofs.Kept.{FitsDifference-zero_left, FitsDifference-zero_right, IsKept-zero}
-use Rattle.dictionary.specs.Dictionary.{each}
+use Rattle.frac128.proofs.Ordered.{IsAtMost-self, IsBelow-not}
+use Rattle.frac128.proofs.Sums.{minus, sum-minus, ◌⊕◌, ◌⊗◌}
+use Rattle.frac128.proofs.Chains.{same_ok, through}
 use Rattle.model_data.specs.Size.{rows_of_sense}
 use Rattle.model_data.specs.declared.model.Model.{Model}
 use Rattle.model_data.specs.declared.model.Row.{Row}
 use Rattle.model_data.specs.declared.model.Sense.{Sense}
 use Rattle.model_data.specs.declared.model.Sense.TheVariants.{Equal, Greater, Less}
 use Rattle.model_data.specs.declared.solution.Weights.{Weights}
-use Rattle.solve_defs.specs.Ends.{dual_of}
-use Rattle.solve_defs.specs.StandardForm.{Shape, by_sense, low_weights, numbered, up_weights, row_entries, row_weight, row_weights, rows_of, shapes_of, side_less, standard_form, weights_back}
+use Rattle.dictionary.specs.declared.standard.Std.{Std}
+use Rattle.dictionary.specs.declared.standard.StdRow.{StdRow}
+use Rattle.dictionary.specs.Dictionary.{Dictionary, numbers_from, each, entry}
+use Rattle.dictionary.proofs.Opened.{length-numbers_from}
+use Rattle.dictionary.proofs.Points.FreeRise.{along, along-absent, along-basic, along-nonbasic, along-own, along-solves}
+use Rattle.dictionary.proofs.Points.OwnPoint.{place_of, constants-reduced}
+use Rattle.dictionary.proofs.Points.Lawful.{IsWide}
+use Rattle.dictionary.proofs.Points.PhaseOne.{auxiliary_all}
+use Rattle.dictionary.proofs.Points.Opening.{get_or-numbers_from}
+use Rattle.solve_defs.specs.Columns.{columns_sum}
+use Rattle.solve_defs.specs.Ends.{duals, weight_in, weight_of, dual_of, farkas_of}
+use Rattle.solve_defs.specs.StandardForm.{negated, Shape, by_sense, low_weights, numbered, up_weights, row_entries, row_weight, row_weights, rows_of, shapes_of, side_less, standard_form, weights_back}
+use Rattle.solve_defs.specs.Values.{value_at}
 use Rattle.solve_defs.specs.declared.cut.Cut.{Cut}
+use Rattle.solve_defs.proofs.FormSums.{columns_sum-negation}
 use Rattle.solve_defs.proofs.FormLists.{at_drop}
 use Rattle.solve_defs.proofs.FormValues.{parts}
-use Rattle.std.proofs.Common.{◌≢◌, Bool, true≢false, false, ℤ}
-use Rattle.std.specs.Prelude.{unwrap_or}
-use Rattle.std.specs.Ordering.{int_eq}
-use Rattle.std.proofs.lemmas.Bool.{lt-ltb}
-use Rattle.std.proofs.lemmas.Bool.Decides.{Decides-int_eq}
-use Rattle.frac128.specs.Fraction.{exact_quotient, inverse}
-use Rattle.frac128.specs.Order.{IsAtMost}
-use Rattle.frac128.proofs.Field.{exact_product-zero_right, exact_product_comm, exact_quotient-product, exact_sum-zero_left}
-use Rattle.frac128.proofs.Ordered.{IsAtMost-self, IsBelow-not}
-use Rattle.dictionary.specs.Dictionary.{entry}
-use Rattle.dictionary.proofs.Points.Lawful.{IsWide}
-use Rattle.dictionary.proofs.Points.OwnPoint.{constants-reduced}
-use Rattle.dictionary.proofs.Points.PhaseOne.{auxiliary_all}
-use Rattle.solve_defs.specs.Ends.{farkas_of}
-use Rattle.relaxation_laws.specs.Reached.{IsInPhaseOne}
+use Rattle.relaxation_laws.specs.FormPoints.{columns_of}
+use Rattle.relaxation_laws.specs.Reached.{IsInPhaseTwo, Relaxes, IsInPhaseOne}
+use Rattle.relaxation_laws.proofs.Bridge.{left_over, solution_rows}
+use Rattle.relaxation_laws.proofs.Priced.{ys_are}
 use Rattle.relaxation_laws.proofs.Artificial.{basic_column}
 use Rattle.relaxation_laws.proofs.BackLooks.{none_low}
-use Rattle.frac128.proofs.Sums.{minus, sum-minus, ◌⊕◌, ◌⊗◌}
-use Rattle.frac128.proofs.Chains.{same_ok, through}
 
 -- a variable without a column has no weight
 unweighed : (d : Dictionary) (row : List Fraction) (u : ℕ) → length d.nonbasic ≤ place_of d.nonbasic u → weight_of d row u ≡ zero_value
@@ -83,7 +68,7 @@ never_both s d i row h phase within turned at_u at_v =
     let apart : q ≡ p → ⊥ = λ e. let same : v ≡ u = sym is_v ∙ ap (slice_index d.nonbasic) e ∙ is_u in omega (arith, same) in
     let x = along p one_value d in
     let none = along-absent p one_value d lawful at_u phase.others in
-    let solves = (h.solutions x none).0 (along-solves p one_value d lawful at_u IsReduced-one) in
+    let solves = (h.solutions x none).0 (along-solves p one_value d lawful at_u apart_of-one) in
     let x_u : x u ≡ one_value = ap x (sym is_u) ∙ along-own p one_value d in
     let x_v : x v ≡ zero_value = ap x (sym is_v) ∙ along-nonbasic p q one_value d lawful at_u at_v apart in
     let ys = columns_of s x in
@@ -100,7 +85,7 @@ weight_at s d line k h within =
     let n = suc (length s.obj) in
     let m = length s.rows in
     ap (λ ys. value_at ys k) (ys_are s d line h)
-    ∙ get_or-map (weight_of d line) (numbers_from n m) k 0 zero_value (omega (arith, within, length-numbers_from n m)) ∙ ap (weight_of d line) (number_at n m k 0 within)
+    ∙ get_or-map (weight_of d line) (numbers_from n m) k 0 zero_value (omega (arith, within, length-numbers_from n m)) ∙ ap (weight_of d line) (get_or-numbers_from n m k 0 within)
 
 pub weighs_once : (s : Std) (d : Dictionary) (line : List Fraction) (i : ℕ) (row : StdRow) → Relaxes s d → IsInPhaseTwo d → suc i < length s.rows → get_or s.rows (suc i) row ≡ negated (get_or s.rows i row)
     → (value_at (duals d line).ys i ≡ zero_value) ⊎ (value_at (duals d line).ys (suc i) ≡ zero_value)

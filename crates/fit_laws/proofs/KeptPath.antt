@@ -1,6 +1,6 @@
 -- Each entry of a dictionary on the path is the result of an operation that fits, and so a number that can be kept.
-use Rattle.std.proofs.Common.{◌≡◌, ◌≢◌, ◌∙◌, ⊎_elim, refl, sym, ap, subst, ℕ, zero, suc, ◌-◌, Bool, true, false, cond, List, [], ◌∷◌, ◌++◌, length, replicate, take, drop, All, IfSome, Option, Some, None, unwrap_or, Result, Ok, pos}
 use Rattle.std.specs.List.{remove}
+use Rattle.std.proofs.Common.{◌≡◌, ◌≢◌, ◌∙◌, ⊎_elim, refl, sym, ap, subst, ℕ, zero, suc, ◌-◌, Bool, true, false, cond, List, [], ◌∷◌, ◌++◌, length, replicate, take, drop, All, IfSome, Option, Some, None, unwrap_or, Result, Ok, pos}
 use Rattle.std.proofs.lemmas.Bool.{cases_lt}
 use Rattle.std.proofs.lemmas.List.{get_or_past}
 use Rattle.std.proofs.lemmas.List.Elements.{All-append, All-cons, All-drop, All-head, All-map, All-nil, All-replicate, All-tail, All-take, All-weaker}
@@ -10,19 +10,19 @@ use Rattle.frac128.specs.Fraction.{Fraction, exact_difference, exact_product, ex
 use Rattle.frac128.specs.Lowest.{IsKept}
 use Rattle.frac128.specs.declared.operations.Op.TheVariants.{Add, Div, Mul, Sub}
 use Rattle.frac128.proofs.Kept.{IsKept-difference, IsKept-negation, IsKept-one, IsKept-product, IsKept-quotient, IsKept-sum, IsKept-zero}
+use Rattle.frac128.proofs.Chains.{same_ok, through}
 use Rattle.dictionary.specs.Dictionary.{Dictionary, IsUniform, artificial_column, each, each_option, each_pair, eliminated_basic, eliminated_entries, eliminated_objective, end_phase_one, entry, needs_phase_one, opening, pivot, pivoted_rows, row_at, solved_row, with_artificial, without_artificial}
 use Rattle.dictionary.specs.Solutions.{HasFeasibleConstants, HasReducedNumbers}
 use Rattle.dictionary.specs.declared.standard.Std.{Std}
-use Rattle.dictionary.proofs.Points.Feasible as feasible
 use Rattle.dictionary.proofs.Points.FirstPivot.{opening_pivots}
+use Rattle.dictionary.proofs.Points.Feasible as feasible
 use Rattle.solve_defs.specs.Ends.{column_of, dual_of, duals, farkas_of, weight_in, weight_of}
 use Rattle.solve_defs.specs.Path.{awaits_artificial, LeadsTo, Path, artificial, further, here, next, pivoted, settled}
-use Rattle.relaxation_laws.specs.KeptEntries.{HasKeptEntries, HasKeptForm}
 use Rattle.relaxation_laws.specs.Reached.{Phase, Reached, at_opening, in_phase_one, in_phase_two}
 use Rattle.relaxation_laws.proofs.ByRule.{awaits_none, comes_artificial, comes_by_rule, made_by_rule}
 use Rattle.relaxation_laws.proofs.FirstStep.{awaits_opening, least_opening}
 use Rattle.relaxation_laws.proofs.Steps.{leads_kept, opening_reached}
-use Rattle.frac128.proofs.Chains.{same_ok, through}
+use Rattle.fit_laws.specs.KeptEntries.{HasKeptEntries, HasKeptForm}
 
 -- ---- operations
 

@@ -1,0 +1,3 @@
+pub mod Equalities
+pub mod KeptPath
+pub mod Weights
