@@ -1,7 +1,7 @@
 -- Trees that grow by one node.
-use Rattle.std.proofs.Common.{◌≡◌, refl, sym, ◌∙◌, ap, subst, ℕ, suc, ℤ, pos, ◌+ℤ◌, Bool, true, false, IsTrue, List, [], ◌∷◌, ◌++◌, length, map, Option, Some, All}
+use Rattle.std.proofs.Common.{◌≡◌, refl, sym, ◌∙◌, ap, subst, ℕ, suc, ℤ, pos, ◌+ℤ◌, Bool, true, false, IsTrue, List, [], ◌∷◌, ◌++◌, length, map, Option, Some, All, arith}
 use Rattle.std.specs.List.{list_all, list_any}
-use Rattle.std.proofs.lemmas.Bool.{and_from, and_parts, or_from, or_parts}
+use Rattle.std.proofs.lemmas.Bool.{and_from, and_parts, eqb-true, or_from, or_parts}
 use Rattle.std.proofs.lemmas.List.Elements.{All-append, All-cons, All-nil}
 use Rattle.frac128.specs.Fraction.{Fraction}
 use Rattle.model_data.specs.declared.model.Model.{Model}
@@ -62,6 +62,15 @@ whole_tree [] (node ∷ tree) is = absurd (cc)
 whole_tree (own ∷ later) (Split var k ∷ tree) is = whole_tree (halves (cuts_of own) (pred_number var) k ++ later) tree is
 whole_tree (own ∷ later) (Bound weights ∷ tree) is = whole_tree later tree is
 whole_tree (own ∷ later) (Farkas weights ∷ tree) is = whole_tree later tree is
+
+-- Behind a whole tree nothing is to come.
+pub none_to_come : (later : List Subtree) (tree : List CertNode) → IsTrue (are_whole (length later) tree) → still_open later tree ≡ Some []
+none_to_come [] [] whole = refl
+none_to_come (own ∷ later) [] whole = let e = eqb-true (length (own ∷ later)) 0 whole in absurd (omega (arith, e))
+none_to_come [] (node ∷ tree) whole = absurd (cc)
+none_to_come (own ∷ later) (Split var k ∷ tree) whole = none_to_come (halves (cuts_of own) (pred_number var) k ++ later) tree whole
+none_to_come (own ∷ later) (Bound weights ∷ tree) whole = none_to_come later tree whole
+none_to_come (own ∷ later) (Farkas weights ∷ tree) whole = none_to_come later tree whole
 
 -- ---- tests of all nodes
 

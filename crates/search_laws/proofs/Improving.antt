@@ -27,7 +27,7 @@ use Rattle.solve_defs.specs.declared.cut.Cut.{Cut}
 use Rattle.solve_defs.specs.declared.solving.LpEnd.TheVariants.{Best, NoPoint, Unbounded}
 use Rattle.solve_defs.specs.declared.status.TheConstants.{INFEASIBLE, INF_OR_UNBD, INTERRUPTED, ITERATION_LIMIT, NODE_LIMIT, NUMERIC, OPTIMAL, UNBOUNDED, WORK_LIMIT}
 use Rattle.solve_defs.specs.Relaxations.{IsReached, RelaxationLaw}
-use Rattle.search_laws.specs.Searches.{IsAtRoot, IsNoWorse, IsRooted, IsTreeTo, Stands, with_own}
+use Rattle.search_laws.specs.Searches.{EndsAtRoot, IsNoWorse, IsTreeTo, Stands, with_own}
 use Rattle.search_laws.specs.Trees.{still_open}
 use Rattle.search_laws.specs.Turns.{Meets}
 use Rattle.search_laws.proofs.Bounded.{best_bounded}
@@ -37,6 +37,10 @@ use Rattle.search_laws.proofs.Runs.{run-going, run-more, run-none, run-over}
 use Rattle.search_laws.proofs.Steps.{Leads, begun_leads, read, start_stands, turn_leads}
 use Rattle.solve_defs.specs.Bounds.{at_least_cut, at_most_cut}
 
+-- The root is under way, or its relaxation has a bound.
+abbrev IsRooted : Model → Search → Type 0
+IsRooted m s = ((s.tree ≡ []) × (s.incumbent ≡ None) × (s.nodes ≡ 0)) ⊎ (IsUnbounded (relaxation m []) → ⊥)
+
 -- the point that is kept where a search is cut there
 abbrev point_at : Progress → Option Point
 point_at at = (cut_off at).outcome.point
@@ -45,10 +49,10 @@ point_at at = (cut_off at).outcome.point
 
 -- from this best point
 abbrev Keeps : Model → Option Point → Progress → Type 0
-Keeps m incumbent at = IsNoWorse m.direction incumbent (point_at at) × Meets (IsRooted m) (λ o cert. IsAtRoot o) at
+Keeps m incumbent at = IsNoWorse m.direction incumbent (point_at at) × Meets (IsRooted m) (λ o cert. EndsAtRoot o) at
 
-other_status : (status : ℕ) (s : Search) (point : Option Point) (wide : Option WideAt) → (status ≡ INF_OR_UNBD → ⊥) → (status ≡ UNBOUNDED → ⊥) → IsAtRoot (outcome status s point wide)
-other_status status s point wide a b = record { relaxed = λ e. absurd (a e); whole = λ e. absurd (b e) }
+other_status : (status : ℕ) (s : Search) (point : Option Point) (wide : Option WideAt) → (status ≡ INF_OR_UNBD → ⊥) → (status ≡ UNBOUNDED → ⊥) → EndsAtRoot (outcome status s point wide)
+other_status status s point wide a b = record { relaxed = λ e. absurd (a e); unbounded = λ e. absurd (b e) }
 
 stop_keeps : (m : Model) (incumbent : Option Point) (s : Search) (status : ℕ) (wide : Option WideAt) (cert : Cert) → IsNoWorse m.direction incumbent s.incumbent
     → (status ≡ INF_OR_UNBD → ⊥) → (status ≡ UNBOUNDED → ⊥) → Keeps m incumbent (over (outcome status s s.incumbent wide) cert)
@@ -67,7 +71,7 @@ begins_keep m incumbent s cuts later (Ok form) better bounded = (better, inr bou
 begins_keep m incumbent s cuts later (Err wide) better bounded = wide_keeps m incumbent s _ Nothing better
 
 finished_keeps : (m : Model) (incumbent kept : Option Point) (s : Search) → IsNoWorse m.direction incumbent kept
-    → IsNoWorse m.direction incumbent kept × IsAtRoot (outcome (if is_some kept then OPTIMAL else INFEASIBLE) s kept None)
+    → IsNoWorse m.direction incumbent kept × EndsAtRoot (outcome (if is_some kept then OPTIMAL else INFEASIBLE) s kept None)
 finished_keeps m incumbent None s better = (better, other_status INFEASIBLE s None None (λ e. absurd (omega (arith, e))) (λ e. absurd (omega (arith, e))))
 finished_keeps m incumbent (Some point) s better = (better, other_status OPTIMAL s (Some point) None (λ e. absurd (omega (arith, e))) (λ e. absurd (omega (arith, e))))
 
@@ -163,14 +167,14 @@ best_keeps m p s node law t rooted reached comes =
 
 ray_keeps : (m : Model) (s : Search) (both : Result (List Fraction × List Fraction) Wide) → s.incumbent ≡ None → s.nodes ≡ 0 → Keeps m s.incumbent (ray_turn s both).progress
 ray_keeps m s (Err wide) none first = wide_keeps m s.incumbent s _ Nothing (no_worse_self m.direction s.incumbent)
-ray_keeps m s (Ok both) none first = (subst (λ i. IsNoWorse m.direction i None) (sym none) tt, record { relaxed = λ _. ap suc first; whole = λ _. ap suc first })
+ray_keeps m s (Ok both) none first = (subst (λ i. IsNoWorse m.direction i None) (sym none) tt, record { relaxed = λ _. ap suc first; unbounded = λ _. ap suc first })
 
 unbounded_keeps : (m : Model) (s : Search) (node : Node) → RelaxationLaw m → IsRooted m s → IsReached m node.cuts node.dictionary → coming node.dictionary ≡ an_end Unbounded
     → Keeps m s.incumbent (unbounded_turn m s node).progress
 unbounded_keeps m s node law rooted reached comes =
     ⊎_elim
     (λ root. cond_both {A = Turn} (has_integers m) _ (ray_turn s (both_back m node)) (λ t. Keeps m s.incumbent t.progress)
-    (λ _. (subst (λ i. IsNoWorse m.direction i None) (sym root.1) tt, record { relaxed = λ _. ap suc root.2; whole = λ _. ap suc root.2 }))
+    (λ _. (subst (λ i. IsNoWorse m.direction i None) (sym root.1) tt, record { relaxed = λ _. ap suc root.2; unbounded = λ _. ap suc root.2 }))
     (λ _. ray_keeps m s (both_back m node) root.1 root.2))
     (λ bounded. absurd (bounded (unbounded_root m node.cuts (law.unbounded node.cuts node.dictionary reached comes))))
     rooted
@@ -196,7 +200,7 @@ record Begins (m : Model) (incumbent : Option Point) (s : Search) : Type 0 where
   stands : Stands m s
   root : IsRooted m s
 
-on_keeps : (m : Model) (p : Params) (incumbent : Option Point) (at : Progress) → RelaxationLaw m → Meets (Begins m incumbent) (λ o cert. IsNoWorse m.direction incumbent o.point × IsAtRoot o) at
+on_keeps : (m : Model) (p : Params) (incumbent : Option Point) (at : Progress) → RelaxationLaw m → Meets (Begins m incumbent) (λ o cert. IsNoWorse m.direction incumbent o.point × EndsAtRoot o) at
     → Keeps m incumbent (turn_on m p at).progress
 on_keeps m p incumbent (over o cert) law h = h
 on_keeps m p incumbent (going s) law h =
@@ -215,12 +219,12 @@ begun_rooted m p s (cuts ∷ later) root =
     (λ _. stop_keeps m s.incumbent s NODE_LIMIT None Nothing (no_worse_self m.direction s.incumbent) (λ e. absurd (omega (arith, e))) (λ e. absurd (omega (arith, e))))
     (λ _. begins_rooted m s cuts later (standard_form m cuts) root)
 
-both : (m : Model) (incumbent : Option Point) (at : Progress) → Leads m at → Keeps m incumbent at → Meets (Begins m incumbent) (λ o cert. IsNoWorse m.direction incumbent o.point × IsAtRoot o) at
+both : (m : Model) (incumbent : Option Point) (at : Progress) → Leads m at → Keeps m incumbent at → Meets (Begins m incumbent) (λ o cert. IsNoWorse m.direction incumbent o.point × EndsAtRoot o) at
 both m incumbent (going s) stands keeps = record { better = keeps.0; stands = stands; root = keeps.1 }
 both m incumbent (over o cert) right keeps = keeps
 
 rooted_begins : (m : Model) (p : Params) (s : Search) (node : Option Node) → s.node ≡ node → Stands m s → IsRooted m s
-    → Meets (Begins m s.incumbent) (λ o cert. IsNoWorse m.direction s.incumbent o.point × IsAtRoot o) (rooted m p s node)
+    → Meets (Begins m s.incumbent) (λ o cert. IsNoWorse m.direction s.incumbent o.point × EndsAtRoot o) (rooted m p s node)
 rooted_begins m p s None is stands root =
     both m s.incumbent (begun m p s s.waiting) (begun_leads m p s s.waiting (subst (λ o. IsTreeTo m s.incumbent s.tree (with_own o s.waiting)) is stands.tree)) (begun_rooted m p s s.waiting root)
 rooted_begins m p s (Some node) is stands root = record { better = no_worse_self m.direction s.incumbent; stands = stands; root = root }
@@ -234,12 +238,12 @@ turn_keeps m p s law stands root = on_keeps m p s.incumbent (rooted m p s s.node
 record Goes (m : Model) (from to : Progress) : Type 0 where
   better : IsNoWorse m.direction (point_at from) (point_at to)
   leads : Leads m to
-  root : Meets (IsRooted m) (λ o cert. IsAtRoot o) to
+  root : Meets (IsRooted m) (λ o cert. EndsAtRoot o) to
 
-stays : (m : Model) (at : Progress) → Leads m at → Meets (IsRooted m) (λ o cert. IsAtRoot o) at → Goes m at at
+stays : (m : Model) (at : Progress) → Leads m at → Meets (IsRooted m) (λ o cert. EndsAtRoot o) at → Goes m at at
 stays m at leads root = record { better = no_worse_self m.direction (point_at at); leads = leads; root = root }
 
-run_goes : (m : Model) (p : Params) (k : ℕ) (at : Progress) → RelaxationLaw m → Leads m at → Meets (IsRooted m) (λ o cert. IsAtRoot o) at → Goes m at (run m p k at).progress
+run_goes : (m : Model) (p : Params) (k : ℕ) (at : Progress) → RelaxationLaw m → Leads m at → Meets (IsRooted m) (λ o cert. EndsAtRoot o) at → Goes m at (run m p k at).progress
 run_goes m p k (over o cert) law leads root = subst (λ r. Goes m (over o cert) r.progress) (sym (run-over m p k o cert)) (stays m (over o cert) leads root)
 run_goes m p zero (going s) law leads root = subst (λ r. Goes m (going s) r.progress) (sym (run-none m p (going s))) (stays m (going s) leads root)
 run_goes m p (suc k) (going s) law leads root =
@@ -265,9 +269,9 @@ later_no_worse m p j k law less =
     parted : (n k : ℕ) → n ≤ k → k ≡ n + (k - n)
     parted n k less = omega (arith, less)
 
-cut_at_root : (m : Model) (at : Progress) → Meets (IsRooted m) (λ o cert. IsAtRoot o) at → IsAtRoot (cut_off at).outcome
+cut_at_root : (m : Model) (at : Progress) → Meets (IsRooted m) (λ o cert. EndsAtRoot o) at → EndsAtRoot (cut_off at).outcome
 cut_at_root m (going s) root = other_status INTERRUPTED s s.incumbent None (λ e. absurd (omega (arith, e))) (λ e. absurd (omega (arith, e)))
 cut_at_root m (over o cert) root = root
 
-pub plain_at_root : (m : Model) (p : Params) (k : ℕ) → RelaxationLaw m → IsAtRoot (plain_cut m p k).outcome
+pub plain_at_root : (m : Model) (p : Params) (k : ℕ) → RelaxationLaw m → EndsAtRoot (plain_cut m p k).outcome
 plain_at_root m p k law = cut_at_root m (run m p k (going start)).progress (run_goes m p k (going start) law (start_stands m) (starts m)).root

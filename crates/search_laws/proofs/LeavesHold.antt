@@ -13,9 +13,8 @@ use Rattle.solve_defs.specs.Looks.{Holds, Look}
 use Rattle.solve_defs.specs.Values.{turned}
 use Rattle.solve_defs.specs.declared.cut.Cut.{Cut}
 use Rattle.solve_defs.specs.declared.verdict.Place.TheVariants.{LeafSide}
-use Rattle.solve_defs.proofs.PointValues.{at_most_shown}
+use Rattle.solve_defs.proofs.PointValues.{at_most_shown, below_shown}
 use Rattle.solve_defs.specs.Relaxations.{BoundBy, Emptied}
-use Rattle.search_laws.proofs.Orders.{below_shown}
 
 leaf_holds : (m : Model) (cuts : List Cut) (leaf : ℕ) (claim : Claim) (weights : Weights) → Combines m cuts leaf weights claim.coefs → IsTrue (claim.holds (side_on claim.constant m cuts weights))
     → All Holds (leaf_looks m cuts leaf claim weights)

@@ -1,5 +1,5 @@
 -- What is carried back has a value for each variable, and weights whose numbers are those of rows and variables.
-use Rattle.std.proofs.Common.{◌≡◌, refl, sym, ◌∙◌, ap, subst, ℕ, suc, ◌+◌, ◌≤◌, IsTrue, ◌&&◌, List, [], ◌∷◌, length, map, Result, Ok, arith}
+use Rattle.std.proofs.Common.{◌≡◌, refl, sym, ◌∙◌, ap, subst, ℕ, suc, ◌+◌, ◌≤◌, IsTrue, ◌&&◌, List, [], ◌∷◌, length, Result, Ok, arith}
 use Rattle.std.specs.Prelude.{nat_le, sum_by}
 use Rattle.std.specs.List.{list_all}
 use Rattle.std.proofs.lemmas.Bool.{and_from, cond_both, le-leb}
@@ -11,6 +11,7 @@ use Rattle.model_data.specs.declared.model.Model.{Model}
 use Rattle.model_data.specs.declared.model.Row.{Row}
 use Rattle.model_data.specs.declared.solution.Weight.{Weight}
 use Rattle.model_data.specs.declared.solution.Weights.{Weights}
+use Rattle.std.proofs.lemmas.List.{length-map}
 use Rattle.solve_defs.specs.Bounds.{effective_bounds}
 use Rattle.solve_defs.specs.Certificates.{are_weights_for, is_number_to}
 use Rattle.solve_defs.specs.StandardForm.{Shape, low_weights, numbered, point_back, point_value, ray_back, ray_value, row_weight, row_weights, shape_between, shapes_of, spans_of, up_weights, values_from, weights_back, width}
@@ -21,12 +22,8 @@ use Rattle.frac128.proofs.Chains.{same_ok, through}
 
 -- ---- lengths
 
-length-map : {A B : Type 0} (f : A → B) (xs : List A) → length (map f xs) ≡ length xs
-length-map f [] = refl
-length-map f (x ∷ xs) = ap suc (length-map f xs)
-
 length-shapes : (m : Model) (cuts : List Cut) → length (shapes_of m cuts) ≡ length m.vars
-length-shapes m cuts = length-map (λ b. shape_between b.lower b.upper) (effective_bounds m cuts) ∙ length-bounds_from 0 m.vars cuts
+length-shapes m cuts = length-map (effective_bounds m cuts) (λ b. shape_between b.lower b.upper) ∙ length-bounds_from 0 m.vars cuts
 
 length-values : (value : Shape → Fraction → Fraction → Result Fraction Wide) (column : ℕ) (shapes : List Shape) (xs ys : List Fraction) → values_from value column shapes xs ≡ Ok ys → length ys ≡ length shapes
 length-values value column [] xs ys h = ap length (sym (same_ok [] ys h))

@@ -1,5 +1,5 @@
 -- Where a search stands between two turns: what its tree shows so far, and what is still to come.
-use Rattle.std.specs.Prelude.{◌≡◌, ◌⊎◌, IsTrue, true, false, List, [], ◌∷◌, length, map, All, IfSome, Option, Some, None}
+use Rattle.std.specs.Prelude.{◌≡◌, IsTrue, true, false, List, [], ◌∷◌, length, map, All, IfSome, Option, Some, None}
 use Rattle.std.specs.List.{list_all, list_any}
 use Rattle.frac128.specs.Order.{IsAtMost}
 use Rattle.model_data.specs.declared.model.Direction.{Direction}
@@ -57,11 +57,7 @@ pub record IsRight (m : Model) (o : Outcome) (cert : Cert) : Type 0 where
   pub valid : IsValid m o cert
   pub relaxed : o.status ≡ INF_OR_UNBD → (has_integers m ≡ true) × IsUnbounded (relaxation m [])
 
--- The root is under way, or its relaxation has a bound.
-abbrev pub IsRooted : Model → Search → Type 0
-IsRooted m s = ((s.tree ≡ []) × (s.incumbent ≡ None) × (s.nodes ≡ 0)) ⊎ (IsUnbounded (relaxation m []) → ⊥)
-
--- A relaxation without a bound is the root's.
-pub record IsAtRoot (o : Outcome) : Type 0 where
+-- Where nothing bounds a relaxation, it is the root's, which is the one finished node.
+pub record EndsAtRoot (o : Outcome) : Type 0 where
   pub relaxed : o.status ≡ INF_OR_UNBD → o.nodes ≡ 1
-  pub whole : o.status ≡ UNBOUNDED → o.nodes ≡ 1
+  pub unbounded : o.status ≡ UNBOUNDED → o.nodes ≡ 1
