@@ -1,6 +1,6 @@
 -- Over a legal history no sum passes its bound.
-use Rattle.std.proofs.Common.{◌≡◌, refl, sym, ap, ◌∙◌, subst, ℕ, zero, suc, ◌+◌, ◌*◌, ◌≤◌, ◌<◌, ◌^◌, List, [], ◌∷◌, ◌++◌, length, Option, Some, None, arith}
-use Rattle.std.specs.Prelude.{filter, option_to_list, sum_by, map}
+use Rattle.std.proofs.Common.{◌≡◌, refl, sym, ap, ◌∙◌, subst, ℕ, zero, suc, ◌+◌, ◌≤◌, ◌<◌, ◌^◌, List, [], ◌∷◌, ◌++◌, length, Option, Some, None, arith}
+use Rattle.std.specs.Prelude.{option_to_list, sum_by}
 use Rattle.std.proofs.lemmas.List.{length-map}
 use Rattle.std.proofs.lemmas.List.Sums.{sum_by-cons}
 use Rattle.base_names.specs.declared.node.NodeNo.{NodeNo}
@@ -11,8 +11,7 @@ use Rattle.table_defs.specs.Taken.{AreTaken, first_refusal, refusal}
 use Rattle.table_defs.proofs.Keyed.{keyed_after, keyed_kept, none_keyed}
 use Rattle.table_defs.proofs.Lists.{fewer}
 use Rattle.table_defs.proofs.Records.{or_first, or_then}
-use Rattle.cluster_defs.specs.Cluster.{Cluster, Job, Node, Running, numbers_of, running, runs_at}
-use Rattle.cluster_defs.specs.Deeds.{Deed, Faults}
+use Rattle.cluster_defs.specs.Cluster.{Cluster, Node, Running, numbers_of, running, runs_at}
 use Rattle.cluster_defs.specs.Ends.{bytes_of, end_of}
 use Rattle.cluster_defs.specs.Entries.{Entry, EntryReply, faults_of}
 use Rattle.cluster_defs.specs.Journal.{Event, was_failed, was_kept, was_not_opened, was_opened}
@@ -20,7 +19,6 @@ use Rattle.cluster_defs.specs.Legal.{GivenBack, IsLegal, IsLegalFrom, IsStep, ba
 use Rattle.cluster_defs.specs.Life.{Tells, event_in, events_from}
 use Rattle.cluster_defs.specs.Opened.{mounted, nodes_from, opened}
 use Rattle.cluster_defs.specs.Placement.{place}
-use Rattle.cluster_defs.specs.Refusals.{reserve}
 use Rattle.cluster_defs.specs.Room.{AreShort, Fits}
 use Rattle.cluster_defs.specs.Site.{Site}
 use Rattle.cluster_defs.specs.Step.{step, with_returned}
@@ -102,17 +100,19 @@ step_holds k n faults c e more lawful written le legal can short h =
     let small : IsSmallEvent event = subst (λ (reply : EntryReply). IsSmallEvent (event_in c e.deed reply)) (sym legal.reply) (event_small k c e.deed (faults_of e)) in
     let s = event_stays k event c next tells more short h.keyed h.fits in
     let numbers = as_many next.nodes c.nodes (step_kept k c e.deed (faults_of e)) in
-    let jobs = step_jobs k c e.deed (faults_of e) in
-    (record {
-      good = step_is_good k c e.deed (faults_of e) h.good;
-      keyed = s.0.ordered;
-      fits = s.0.fits;
-      weighs = event_weighs k event c next written tells h.keyed h.weighs;
-      small = event_keeps_small k event c next tells small h.small;
-      nodes = omega (arith, numbers, h.nodes);
-      jobs = omega (arith, jobs, h.jobs);
-      counts = step_counts k c e.deed (faults_of e) legal.may written (light_of k n c lawful le h) can.0 h.counts;
-    }, s.1)
+    let jobs = step_jobs k c e.deed (faults_of e) in (
+      record {
+        good = step_is_good k c e.deed (faults_of e) h.good;
+        keyed = s.0.ordered;
+        fits = s.0.fits;
+        weighs = event_weighs k event c next written tells h.keyed h.weighs;
+        small = event_keeps_small k event c next tells small h.small;
+        nodes = omega (arith, numbers, h.nodes);
+        jobs = omega (arith, jobs, h.jobs);
+        counts = step_counts k c e.deed (faults_of e) legal.may written (light_of k n c lawful le h) can.0 h.counts;
+      },
+      s.1,
+    )
 
 history_holds : (k : Site) (H : List Entry) (N : List GivenBack) (n faults m : ℕ) (c : Cluster) → IsLawful k.setup → IsWritten k → IsLegalFrom k n faults c N H → AreShort k (events_from k n c N H) → AreWritable k H → n + length H ≤ m → m ≤ most_entries → Holds k n c → Holds k m (cluster_from k n c N H)
 history_holds k [] N n faults m c lawful written legal short can le most h = longer k n m _ (omega (arith, le)) (back_holds k n (back_at n N) c h)

@@ -1,5 +1,5 @@
 -- What one command is charged with at most.
-use Rattle.std.proofs.Common.{◌≡◌, refl, sym, ap, ◌∙◌, subst, ℕ, ◌+◌, ◌*◌, ◌≤◌, Bool, true, false, List, [], ◌∷◌, ◌++◌, length, map, Option, Some, None, cond, arith}
+use Rattle.std.proofs.Common.{◌≡◌, refl, ap, ℕ, ◌+◌, ◌≤◌, Bool, true, false, List, [], ◌∷◌, length, map, Option, Some, None, cond, arith}
 use Rattle.std.specs.Prelude.{filter, find, not, sum_by}
 use Rattle.std.proofs.lemmas.List.{length-append, length-map}
 use Rattle.std.proofs.lemmas.List.Sums.{sum_by-cons}
@@ -9,7 +9,6 @@ use Rattle.base_names.specs.declared.node.Placed.{Placed}
 use Rattle.base_names.specs.declared.refusal.Refusal.{Refusal}
 use Rattle.base_names.specs.declared.refusal.Refusal.TheVariants.{NODELOST, NOJOB}
 use Rattle.base_names.specs.declared.seat.Seat.{Seat}
-use Rattle.model_data.specs.declared.batch.BatchRecord.TheVariants as is
 use Rattle.model_data.specs.declared.batch.BatchResult.{BatchResult}
 use Rattle.model_data.specs.declared.batch.BatchRow.{BatchRow}
 use Rattle.table_defs.specs.Names.{Owner, is_id, is_owner}
@@ -20,7 +19,7 @@ use Rattle.cluster_defs.specs.Answers.{batch_line, poll_reply, row_reply, status
 use Rattle.cluster_defs.specs.Asks as asks
 use Rattle.cluster_defs.specs.Asks.{Ask}
 use Rattle.cluster_defs.specs.Charges.{charge, found_bytes, reply_charge}
-use Rattle.cluster_defs.specs.Cluster.{Cluster, Job, job_of, line_of, lines}
+use Rattle.cluster_defs.specs.Cluster.{Cluster, Job, job_of, line_of}
 use Rattle.cluster_defs.specs.Listing.{attempt_line, by_id, by_seat, is_before, is_earlier, is_going_on, job_line, job_lines, listed_jobs, seated_in, sorted_in}
 use Rattle.cluster_defs.specs.Replies as tells
 use Rattle.cluster_defs.specs.Replies.{Reply}

@@ -1,5 +1,5 @@
 -- Through openings the faults are counted up.
-use Rattle.std.proofs.Common.{ℕ, suc, ◌≤◌, ◌<◌, ◌≡◌, Bool, true, false, List, [], ◌∷◌, ◌++◌, arith}
+use Rattle.std.proofs.Common.{ℕ, suc, ◌≤◌, Bool, true, false, List, [], ◌∷◌, ◌++◌, arith}
 use Rattle.cluster_defs.specs.Cluster.{Cluster}
 use Rattle.cluster_defs.specs.Counted.{AreCounted, AreLegal, AreOfOneDisk, faults_behind, histories}
 use Rattle.cluster_defs.specs.Entries.{Entry, faults_of}

@@ -39,3 +39,4 @@ pub mod TakenRecords
 pub mod Uses
 pub mod Waiters
 pub mod Weights
+mod WorkedBounds

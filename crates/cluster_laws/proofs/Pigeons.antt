@@ -1,6 +1,6 @@
 -- No more attempts run than there are rows, since each runs once.
-use Rattle.std.proofs.Common.{◌≡◌, refl, sym, ap, ◌∙◌, subst, ℕ, suc, zero, ◌+◌, ◌≤◌, Bool, true, false, not, List, [], ◌∷◌, length, Option, Some, None, cond, arith}
-use Rattle.std.specs.Prelude.{filter, find, is_some}
+use Rattle.std.proofs.Common.{◌≡◌, refl, sym, ap, ◌∙◌, ℕ, suc, zero, ◌+◌, ◌≤◌, Bool, true, false, not, List, [], ◌∷◌, length, Option, Some, None, cond, arith}
+use Rattle.std.specs.Prelude.{filter, is_some}
 use Rattle.base_names.specs.declared.id.BatchId.{BatchId}
 use Rattle.model_data.specs.declared.batch.BatchRow.{BatchRow}
 use Rattle.table_defs.specs.Keyed.{rows_for}

@@ -1,6 +1,6 @@
 -- Each deed keeps each seat's job: it waits exactly while it has no node.
 use Rattle.std.proofs.Common.{◌≡◌, inl, inr, refl, sym, ap, ◌∙◌, subst, ℕ, ◌+◌, ◌==◌, ◌&&◌, Bool, true, false, not, ℤ, List, [], ◌∷◌, ◌++◌, Option, Some, None, cond, arith}
-use Rattle.std.specs.Prelude.{filter, find, is_some, is_none}
+use Rattle.std.specs.Prelude.{filter, is_some, is_none}
 use Rattle.base_names.specs.declared.node.NodeNo.{NodeNo}
 use Rattle.base_names.specs.declared.node.Placed.{Placed}
 use Rattle.base_names.specs.declared.node.Waiter.{Waiter}

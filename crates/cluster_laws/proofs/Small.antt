@@ -1,5 +1,5 @@
 -- No number of a batch or of an attempt passes the greatest one.
-use Rattle.std.proofs.Common.{◌≡◌, inl, inr, refl, sym, ap, ◌∙◌, subst, ℕ, suc, ◌+◌, ◌≤◌, ◌<◌, ◌==◌, ◌&&◌, ◌||◌, Bool, true, false, not, List, [], ◌∷◌, ◌++◌, Option, Some, None, cond, arith}
+use Rattle.std.proofs.Common.{◌≡◌, inl, inr, refl, sym, ap, ◌∙◌, subst, ℕ, suc, ◌+◌, ◌≤◌, Bool, true, false, not, List, [], ◌∷◌, ◌++◌, Option, Some, None, cond, arith}
 use Rattle.std.specs.Prelude.{⊤, filter, find, nat_lt, option_to_list}
 use Rattle.std.proofs.lemmas.Bool.Decides.{nat_tests}
 use Rattle.base_names.specs.declared.id.BatchId.{BatchId}
@@ -16,7 +16,7 @@ use Rattle.table_defs.specs.Names.{Owner, is_id, is_owner}
 use Rattle.table_defs.specs.Table.{Mark, Table, aborted, after, applied, begun, completed, ended, failed, greatest, lost, new_row, no_rows, number_of, row_of, with_mark, with_row}
 use Rattle.table_defs.proofs.Names.{and_right}
 use Rattle.table_defs.proofs.Rows.{unless_none, wanted_row}
-use Rattle.cluster_defs.specs.Appended.{attempt_in, lost_with, next_id, record_of}
+use Rattle.cluster_defs.specs.Appended.{attempt_in, lost_with, record_of}
 use Rattle.cluster_defs.specs.Asks as asks
 use Rattle.cluster_defs.specs.Asks.{Ask}
 use Rattle.cluster_defs.specs.Cluster.{Cluster, attempts_at}

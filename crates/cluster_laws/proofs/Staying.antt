@@ -1,16 +1,15 @@
 -- What has a place keeps it over a whole step.
-use Rattle.std.proofs.Common.{◌≡◌, inl, inr, refl, sym, ap, ◌∙◌, subst, ℕ, ◌==◌, ◌&&◌, ℤ, Bool, true, false, not, List, [], ◌∷◌, ◌++◌, Option, Some, None, cond, arith}
+use Rattle.std.proofs.Common.{◌≡◌, inl, inr, refl, sym, ap, ◌∙◌, subst, ℕ, ℤ, Bool, true, false, not, List, [], ◌∷◌, ◌++◌, Option, Some, None, cond, arith}
 use Rattle.std.specs.Prelude.{◌⊎◌, filter, if◌then◌else◌, is_some, nat_le}
 use Rattle.base_names.specs.declared.id.BatchId.{BatchId}
 use Rattle.base_names.specs.declared.node.NodeNo.{NodeNo}
 use Rattle.base_names.specs.declared.node.Placed.{Placed}
-use Rattle.base_names.specs.declared.node.Waiter.TheVariants as waits
 use Rattle.base_names.specs.declared.refusal.Refusal.{Refusal}
 use Rattle.base_names.specs.declared.seat.Seat.{Seat}
 use Rattle.model_data.specs.declared.batch.BatchResult.{BatchResult}
 use Rattle.table_defs.specs.Lists.{changed}
 use Rattle.table_defs.specs.Names.{is_attempt, is_id}
-use Rattle.table_defs.specs.Table.{Table, row_of}
+use Rattle.table_defs.specs.Table.{row_of}
 use Rattle.table_defs.proofs.Lists.{filter_changed, filter_filter, push_other}
 use Rattle.table_defs.proofs.Names.{and_off, not_both}
 use Rattle.cluster_defs.specs.Answers.{poll_reply, whole_reply}
@@ -18,7 +17,7 @@ use Rattle.cluster_defs.specs.Appended.{attempt_in}
 use Rattle.cluster_defs.specs.Asks as asks
 use Rattle.cluster_defs.specs.Asks.{Ask}
 use Rattle.cluster_defs.specs.Cluster.{Cluster, Given, Job, Running, id_of, is_at, job_of, runs_at}
-use Rattle.cluster_defs.specs.Deeds.{Asked, Deed, Faults, Finished, Kept, Left, Took}
+use Rattle.cluster_defs.specs.Deeds.{Asked, Deed, Faults, Finished, Left, Took}
 use Rattle.cluster_defs.specs.Effects.{done, is_lost, jobs_after, marked_jobs, new_job, placed_after, without_job}
 use Rattle.cluster_defs.specs.Entries as answers
 use Rattle.cluster_defs.specs.Placement.{place, settled}

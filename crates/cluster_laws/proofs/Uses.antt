@@ -1,6 +1,6 @@
 -- What is counted: entries, charges, and the jobs that a seat was given.
-use Rattle.std.proofs.Common.{◌≡◌, refl, sym, ap, ◌∙◌, subst, ℕ, ◌+◌, ◌≤◌, ◌||◌, Bool, true, false, not, ℤ, List, [], ◌∷◌, ◌++◌, length, Option, Some, None, arith}
-use Rattle.std.specs.Prelude.{filter, find, if◌then◌else◌, nat_le}
+use Rattle.std.proofs.Common.{◌≡◌, refl, sym, ap, ◌∙◌, subst, ℕ, ◌+◌, ◌≤◌, ◌||◌, Bool, true, false, not, List, [], ◌∷◌, ◌++◌, length, Option, Some, None, arith}
+use Rattle.std.specs.Prelude.{filter, if◌then◌else◌, nat_le}
 use Rattle.std.proofs.lemmas.Bool.Decides.{nat_tests}
 use Rattle.std.proofs.lemmas.List.{length-append, length-map}
 use Rattle.base_names.specs.declared.id.BatchId.{BatchId}
@@ -25,7 +25,7 @@ use Rattle.cluster_defs.specs.Asks.{Ask}
 use Rattle.cluster_defs.specs.Charges.{charge, counted}
 use Rattle.cluster_defs.specs.Cluster.{Cluster, Given, Job, Usage, given_of, id_of, job_of, jobs_given, runs_at, usage_of}
 use Rattle.cluster_defs.specs.Deeds.{Asked, Deed, Faults, Finished, Left, Took}
-use Rattle.cluster_defs.specs.Effects.{done, given_after, is_lost, jobs_after, lost_jobs, marked_jobs, new_job, without_job}
+use Rattle.cluster_defs.specs.Effects.{done, given_after, is_lost, jobs_after, marked_jobs, new_job, without_job}
 use Rattle.cluster_defs.specs.Legal.{MayHappen}
 use Rattle.cluster_defs.specs.Placement.{place, placed_jobs, settled, with_place}
 use Rattle.cluster_defs.specs.Refusals.{ask_refusal, commands_refusal, is_free, marked_job, most_charges}

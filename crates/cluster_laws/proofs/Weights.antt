@@ -1,6 +1,6 @@
 -- What rows weigh: no more than the records that made them.
-use Rattle.std.proofs.Common.{◌≡◌, refl, sym, ap, ◌∙◌, subst, ℕ, ◌+◌, ◌*◌, ◌≤◌, ◌==◌, ◌&&◌, Bool, true, false, not, List, [], ◌∷◌, ◌++◌, length, Option, Some, None, arith}
-use Rattle.std.specs.Prelude.{filter, find, sum_by}
+use Rattle.std.proofs.Common.{◌≡◌, refl, sym, ap, ◌∙◌, ℕ, ◌+◌, ◌*◌, ◌≤◌, ◌==◌, Bool, true, not, List, [], ◌∷◌, ◌++◌, length, Option, Some, None, arith}
+use Rattle.std.specs.Prelude.{filter, sum_by}
 use Rattle.std.proofs.lemmas.Bool.Decides.{Decides-eqb}
 use Rattle.std.proofs.lemmas.List.Sums.{sum_by_push}
 use Rattle.base_names.specs.declared.id.BatchId.{BatchId}
@@ -15,7 +15,6 @@ use Rattle.table_defs.specs.Names.{Owner, is_id, is_owner}
 use Rattle.table_defs.specs.Owned.{rows_of}
 use Rattle.table_defs.specs.Table.{Table, aborted, applied, begun, completed, ended, failed as lost_status, lost, new_row, row_of, submitted, with_row}
 use Rattle.table_defs.specs.Taken.{is_open, on_row, refusal}
-use Rattle.table_defs.proofs.Lists.{filter_push}
 use Rattle.table_defs.proofs.Names.{and_right, id_is}
 use Rattle.table_defs.proofs.Rows.{wanted_row}
 use Rattle.cluster_defs.specs.Refusals.{kept_bytes, need, reserve, reserved}
