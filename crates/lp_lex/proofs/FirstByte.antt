@@ -5,7 +5,7 @@ use Rattle.std.proofs.lemmas.Bool.Decides.{nat_tests}
 use Rattle.std.proofs.lemmas.Grind.{common_steps}
 use Rattle.frac_text.specs.Reading.{reading}
 use Rattle.lp_defs.specs.declared.token.SectionWord.TheVariants.{End, Free, General}
-use Rattle.lp_defs.specs.declared.token.TokenKind.TheVariants.{Infinite}
+use Rattle.lp_defs.specs.declared.token.TokenKind.TheVariants.{Infinite, Sign}
 use Rattle.model_data.specs.Names.{is_one_of}
 use Rattle.model_data.specs.Words.{end_words, free_words, general_words, infinite_words}
 use Rattle.base_names.specs.declared.refusal.FaultWord.TheVariants.{Word}
@@ -151,6 +151,19 @@ no_section b rest h =
     let h115 = or_right (112 == x) _ h112 in
     sym (section_none b rest (or_left (98 == x) _ h) (or_left (101 == x) _ h101) (or_left (102 == x) _ h102) (or_left (103 == x) _ h103)
     (or_left (109 == x) _ h109) (or_left (112 == x) _ h112) (or_left (115 == x) _ h115))
+
+-- a sign alone
+pub plus_kind : (run : List ℕ) → length run ≡ 1 → slice_index run 0 ≡ 43 → Ok (Sign false) ≡ kind_of run
+unfolding kind_of symbol_of
+plus_kind [] one is = absurd (omega arith)
+plus_kind (b ∷ []) one is = rw is refl
+plus_kind (b ∷ next ∷ rest) one is = absurd (omega arith)
+
+pub minus_kind : (run : List ℕ) → length run ≡ 1 → slice_index run 0 ≡ 45 → Ok (Sign true) ≡ kind_of run
+unfolding kind_of symbol_of
+minus_kind [] one is = absurd (omega arith)
+minus_kind (b ∷ []) one is = rw is refl
+minus_kind (b ∷ next ∷ rest) one is = absurd (omega arith)
 
 -- the kind of a run by the class of its first byte
 pub unsigned_kind : (run : List ℕ) → 1 ≤ length run → begins_symbol (slice_index run 0) ≡ false → begins_unsigned (slice_index run 0) ≡ true

@@ -1,4 +1,5 @@
 pub mod Ahead
+pub mod Class
 pub mod Lexer
 pub mod Runs
 pub mod Words

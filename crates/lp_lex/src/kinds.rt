@@ -1,38 +1,55 @@
 //! What kind of token a run is.
 //!
 //! The first byte decides which kinds can fit at all, so most runs are compared with no word.
-ghost use Rattle.std.specs.Prelude.{◌≡◌, IsTrue, false};
+ghost use Rattle.std.specs.Prelude.{◌≡◌, IsTrue, codes, false};
 ghost use Rattle.frac_text.specs.Reading.{reading};
 ghost use Rattle.model_data.specs.Names.{is_one_of};
 ghost use Rattle.model_data.specs.Words.{infinite_words};
 ghost use Rattle.lp_defs.specs.Kinds.{colon, is_any_word, is_infinite, is_word_of_its_own, kind_of, label_of, name_of, number_kind, quantity_of, section_of, symbol_of};
+ghost use Rattle.lp_lex.specs.Class.{class_told};
 ghost use Rattle.lp_lex.specs.Runs.{IsSimple};
 ghost use Rattle.lp_lex.specs.Words.{begins_symbol, begins_unsigned, begins_word, label_or_name, section_in_b, section_in_m, section_in_s, unsupported_section, word_if, word_or_name};
 
+use crate::class::TokenClass;
 use crate::words::{begins_with, is_any_word, is_one_of, is_text};
 use base_names::FaultWord;
 use frac_text::NumFault;
+use frac128::Frac;
 use lp_defs::{SectionWord, TokenKind};
 use model_data::{MAX_NAME_LEN, Sense};
 
 type Kind = Result<TokenKind, FaultWord>;
 
-/// The kind of a run, or its fault.
-pub(crate) fn kind(run: &[u8], is_simple: bool) -> Kind
+/// What a run is, or its fault. The value of a number is put into its place.
+pub(crate) fn class(run: &[u8], is_simple: bool, value: &mut Frac) -> Result<TokenClass, FaultWord>
     requires { IsTrue is_simple → IsSimple run.now }
-    ensures { result ≡ kind_of run.now }
+    ensures { class_told result value.new ≡ kind_of run.now }
 {
     let [first, ..] = run else {
-        return kind_by_order(run);
+        return classed(kind_by_order(run), value);
     };
     if begins_symbol(*first) {
-        kind_by_order(run)
+        match *first {
+            b'+' if run.len() == 1 => Ok(TokenClass::Sign { negative: false }),
+            b'-' if run.len() == 1 => Ok(TokenClass::Sign { negative: true }),
+            _ => classed(kind_by_order(run), value),
+        }
     } else if begins_unsigned(*first) {
-        number(run)
+        unsigned_number(run, value)
     } else if begins_word(*first) {
-        word_or_name(run, is_simple)
+        classed(word_or_name(run, is_simple), value)
     } else {
-        label_or_name(run, is_simple)
+        classed(label_or_name(run, is_simple), value)
+    }
+}
+
+/// The kind, with the value of a number in its place.
+fn classed(kind: Kind, value: &mut Frac) -> Result<TokenClass, FaultWord>
+    ensures { class_told result value.new ≡ kind }
+{
+    match kind {
+        Ok(kind) => Ok(TokenClass::of_kind(&kind, value)),
+        Err(fault) => Err(fault),
     }
 }
 
@@ -127,6 +144,20 @@ fn quantity(run: &[u8]) -> Option<Kind>
     match run {
         [b'0'..=b'9' | b'.' | b'+' | b'-', ..] => Some(number(run)),
         _ => None,
+    }
+}
+
+/// A number that begins with a digit or a point.
+fn unsigned_number(run: &[u8], value: &mut Frac) -> Result<TokenClass, FaultWord>
+    ensures { class_told result value.new ≡ number_kind (reading run.now) }
+{
+    match frac_text::read(run) {
+        Ok(number) => {
+            *value = number;
+            Ok(TokenClass::Number)
+        }
+        Err(NumFault::NotNumber) => Err(FaultWord::Number),
+        Err(NumFault::TooWide { negative, huge }) => Ok(TokenClass::TooWide { negative, huge }),
     }
 }
 
@@ -302,11 +333,19 @@ fn name_of_length(run: &[u8]) -> Kind
     requires { is_one_of run.now colon ≡ false }
     ensures { result ≡ name_of run.now }
 {
-    if begins_with(run, "*^<>=()],") {
-        Err(FaultWord::Word)
-    } else if run.len() <= MAX_NAME_LEN {
-        Ok(TokenKind::Name)
-    } else {
-        Err(FaultWord::NameLength)
+    match run {
+        [first, ..] if begins_no_name(*first) => Err(FaultWord::Word),
+        _ if run.len() <= MAX_NAME_LEN => Ok(TokenKind::Name),
+        _ => Err(FaultWord::NameLength),
     }
+}
+
+/// Whether no name begins with the byte.
+fn begins_no_name(byte: u8) -> bool
+    ensures { result ≡ is_one_of (codes "*^<>=()],") byte }
+{
+    matches!(
+        byte,
+        b'*' | b'^' | b'<' | b'>' | b'=' | b'(' | b')' | b']' | b','
+    )
 }

@@ -3,13 +3,16 @@ ghost use Rattle.std.specs.Prelude.{◌≡◌, ◌+◌, ◌^◌, ◌<◌, IfSome
 ghost use Rattle.lp_defs.specs.Items.{fault_at, forbidden_after, is_next_on_line, item_alone, item_of};
 ghost use Rattle.lp_defs.specs.Tokens.{is_plain_byte};
 ghost use Rattle.lp_lex.specs.Ahead.{IsWithin, item_of_outcome, runs_ahead};
+ghost use Rattle.lp_lex.specs.Class.{class_told};
 ghost use Rattle.lp_lex.specs.Runs.{IsMarked, run_of};
 
-use crate::kinds::kind;
+use crate::class::{ClassedToken, TokenClass};
+use crate::kinds::class;
 use crate::runs::{Run, along, next_run, text_end};
 use crate::words::{is_any_word, is_word};
 use base_names::FaultWord;
-use lp_defs::{LexFault, Place, Token, TokenKind};
+use frac128::Frac;
+use lp_defs::{LexFault, Place, Token};
 
 /// A text, and how far it has been read.
 #[derive(Clone, Copy, Debug)]
@@ -24,6 +27,7 @@ impl<'a> Lexer<'a> {
     ghost use Rattle.lp_defs.specs.Items.{items};
     ghost use Rattle.lp_defs.specs.Tokens.{end_of};
     ghost use Rattle.lp_lex.specs.Ahead.{IsSlice, first_bytes, items_behind, next_of};
+    ghost use Rattle.lp_lex.specs.Class.{next_told, token_with};
     ghost use Rattle.lp_lex.specs.Lexer.{end_of as end_for, items_ahead, offset_of, text_of};
 
     /// A lexer before the first token. The text has fewer than 2^32 - 1 bytes.
@@ -60,34 +64,57 @@ impl<'a> Lexer<'a> {
         ensures same_text { text_of self.new ≡ text_of self.old }
         ensures same_end { end_for self.new ≡ end_for self.old }
     {
+        let mut value = Frac::zero();
+        match self.next_classed(&mut value) {
+            Ok(Some(token)) => Ok(Some(token.with_value(&value))),
+            Ok(None) => Ok(None),
+            Err(fault) => Err(fault),
+        }
+    }
+
+    /// The next token, or `None` at the end, with the value of a number in a place of its own. A run that is no token stays
+    /// ahead.
+    pub fn next_classed(&mut self, value: &mut Frac) -> Result<Option<ClassedToken>, LexFault>
+        ensures next { next_told result value.new ≡ next_of (items_ahead self.old) }
+        ensures items { items_ahead self.new ≡ items_behind (items_ahead self.old) }
+        ensures slice { IfOk result (λ next. IfSome next (λ token. IsSlice (text_of self.old) (offset_of self.old) (first_bytes (items_ahead self.old)) (token_with token value.new))) }
+        ensures offset { IfOk result (λ next. IfSome next (λ token. offset_of self.new ≡ token.end)) }
+        ensures same_text { text_of self.new ≡ text_of self.old }
+        ensures same_end { end_for self.new ≡ end_for self.old }
+    {
         let Some(run) = next_run(self.text, self.place) else {
             return Ok(None);
         };
         let end = along(run.place, run.bytes.len());
-        let kind = kind_before(self.text, run, end)?;
+        let class = class_before(self.text, run, end, value)?;
         self.place = end;
-        Ok(Some(Token {
+        Ok(Some(ClassedToken {
             line: run.place.line,
             column: run.place.column,
             start: run.place.offset,
             end: end.offset,
-            kind,
+            class,
         }))
     }
 }
 
-/// The kind of a run that ends there, or its fault.
-fn kind_before(text: &[u8], run: Run<'_>, end: Place) -> Result<TokenKind, LexFault>
+/// What a run that ends there is, or its fault.
+fn class_before(
+    text: &[u8],
+    run: Run<'_>,
+    end: Place,
+    value: &mut Frac,
+) -> Result<TokenClass, LexFault>
     requires within { IsWithin text.now end }
     requires marked { IsMarked run }
     requires column_fits { run.place.column + length run.bytes.now < 2 ^ 32 }
     requires offset_fits { run.place.offset + length run.bytes.now < 2 ^ 32 }
-    ensures { item_of_outcome (run_of run.entry) result ≡ item_of (run_of run.entry) (runs_ahead text.now end) }
+    ensures { item_of_outcome (run_of run.entry) (class_told result value.new) ≡ item_of (run_of run.entry) (runs_ahead text.now end) }
 {
     if is_before_forbidden(text, run, end) {
         return Err(fault_at(run.place, FaultWord::Unsupported));
     }
-    kind_alone(run)
+    class_alone(run, value)
 }
 
 /// Whether the run and the next one on its line are two words that no text may have.
@@ -118,17 +145,20 @@ fn forbidden_after(first: &[u8]) -> Option<&'static str>
     }
 }
 
-/// The kind of a run, whatever comes next.
-fn kind_alone(run: Run<'_>) -> Result<TokenKind, LexFault>
+/// What a run is, whatever comes next.
+fn class_alone(run: Run<'_>, value: &mut Frac) -> Result<TokenClass, LexFault>
     requires marked { IsMarked run }
     requires column_fits { run.place.column + length run.bytes.now < 2 ^ 32 }
     requires offset_fits { run.place.offset + length run.bytes.now < 2 ^ 32 }
-    ensures { item_of_outcome (run_of run.entry) result ≡ item_alone (run_of run.entry) }
+    ensures { item_of_outcome (run_of run.entry) (class_told result value.new) ≡ item_alone (run_of run.entry) }
 {
     if let Some(bad) = bad_byte(run) {
         return Err(fault_at(along(run.place, bad), FaultWord::Word));
     }
-    kind(run.bytes, run.is_simple).map_err(|fault| fault_at(run.place, fault))
+    match class(run.bytes, run.is_simple, value) {
+        Ok(class) => Ok(class),
+        Err(fault) => Err(fault_at(run.place, fault)),
+    }
 }
 
 /// Where the first byte is that no token has.

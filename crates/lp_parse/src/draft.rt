@@ -210,11 +210,11 @@ impl Draft {
     }
 
     /// Makes the variable at most, at least or equal to the limit. The other bound stays.
-    pub(crate) fn bound(&mut self, name: &[u8], sense: Sense, limit: &Limit)
-        ensures { self.new ≡ record self.old { model = defs.change_var name.now (with_bound sense (limit_of limit.now)) self.old.model } }
+    pub(crate) fn bound(&mut self, name: &[u8], sense: Sense, limit: Limit, number: &Frac)
+        ensures { self.new ≡ record self.old { model = defs.change_var name.now (with_bound sense (limit_of limit number.now)) self.old.model } }
     {
         if let Some(place) = self.var_names.place(name) {
-            set_bound(&mut self.vars[place], sense, limit);
+            set_bound(&mut self.vars[place], sense, limit, number);
         }
     }
 
@@ -346,15 +346,15 @@ fn new_var(alloc: Global, name: &[u8]) -> Result<Var, NoMemory>
 }
 
 /// Makes the variable at most, at least or equal to the limit. The other bound stays.
-fn set_bound(var: &mut Var, sense: Sense, limit: &Limit)
-    ensures { var.new ≡ with_bound sense (limit_of limit.now) var.old }
+fn set_bound(var: &mut Var, sense: Sense, limit: Limit, number: &Frac)
+    ensures { var.new ≡ with_bound sense (limit_of limit number.now) var.old }
 {
     match sense {
-        Sense::Less => var.upper = limit.bound(),
-        Sense::Greater => var.lower = limit.bound(),
+        Sense::Less => var.upper = limit.bound(number),
+        Sense::Greater => var.lower = limit.bound(number),
         Sense::Equal => {
-            var.lower = limit.bound();
-            var.upper = limit.bound();
+            var.lower = limit.bound(number);
+            var.upper = limit.bound(number);
         }
     }
 }

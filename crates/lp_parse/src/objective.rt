@@ -7,8 +7,8 @@ ghost use Rattle.lp_parse.specs.Outcome.{Meets};
 use crate::draft::{Draft, Summand};
 use crate::stage::{SecondWord, Stage};
 use crate::symbol::{Quantity, Spot, Symbol};
+use crate::told::Told;
 use base_names::{FaultWord, OrMemory};
-use frac128::Frac;
 use lp_defs::{ModelFault, SectionWord};
 use model_data::Direction;
 use std::alloc::Global;
@@ -16,28 +16,28 @@ use std::alloc::Global;
 /// A text begins with an objective word.
 pub(crate) fn after_start<'a>(
     alloc: Global,
-    draft: &mut Draft,
+    told: &mut Told,
     spot: Spot,
-    symbol: &Symbol<'_>,
+    symbol: &Symbol<'_, '_>,
 ) -> Result<Stage<'a>, OrMemory<ModelFault>>
-    ensures { Meets result (λ stage. stage_of stage draft.new) (defs.after_start (spot_of spot) (symbol_of symbol.now)) }
+    ensures { Meets result (λ stage. stage_of stage told.new) (defs.after_start (spot_of spot) (symbol_of symbol.now)) }
 {
     let direction = match symbol {
         Symbol::Keyword(SectionWord::Minimize) => Direction::Minimize,
         Symbol::Keyword(SectionWord::Maximize) => Direction::Maximize,
         _ => return Err(spot.fault(FaultWord::NoSection)),
     };
-    *draft = Draft::blank(alloc, direction);
+    told.draft = Draft::blank(alloc, direction);
     Ok(Stage::ObjectiveStart)
 }
 
 /// A section word behind a whole objective: the constraints word, and no other one.
 fn after_objective<'a>(
-    draft: &mut Draft,
+    told: &mut Told,
     spot: Spot,
     word: SectionWord,
 ) -> Result<Stage<'a>, OrMemory<ModelFault>>
-    ensures { Meets result (λ stage. stage_of stage draft.new) (defs.after_objective (spot_of spot) word draft.old.model) }
+    ensures { Meets result (λ stage. stage_of stage told.new) (defs.after_objective (spot_of spot) word told.old.draft.model) }
 {
     match word {
         SectionWord::Constraints => Ok(Stage::RowsStart),
@@ -49,12 +49,12 @@ fn after_objective<'a>(
 
 pub(crate) fn after_second_word<'a>(
     wanted: SecondWord,
-    draft: &mut Draft,
+    told: &mut Told,
     spot: Spot,
-    symbol: &Symbol<'_>,
+    symbol: &Symbol<'_, '_>,
 ) -> Result<Stage<'a>, OrMemory<ModelFault>>
-    ensures { Meets result (λ stage. stage_of stage draft.new)
-        (defs.after_second_word (second_word_of wanted) (spot_of spot) (symbol_of symbol.now) draft.old.model) }
+    ensures { Meets result (λ stage. stage_of stage told.new)
+        (defs.after_second_word (second_word_of wanted) (spot_of spot) (symbol_of symbol.now) told.old.draft.model) }
 {
     let text = match wanted {
         SecondWord::To => "to",
@@ -68,60 +68,60 @@ pub(crate) fn after_second_word<'a>(
 
 fn objective_term<'a>(
     alloc: Global,
-    draft: &mut Draft,
+    told: &mut Told,
     term: &Summand<'_>,
 ) -> Result<Stage<'a>, OrMemory<ModelFault>>
-    ensures { Meets result (λ stage. stage_of stage draft.new) (defs.objective_term (summand_of term.now) draft.old.model) }
+    ensures { Meets result (λ stage. stage_of stage told.new) (defs.objective_term (summand_of term.now) told.old.draft.model) }
 {
-    draft.add_to_objective(alloc, term)?;
+    told.draft.add_to_objective(alloc, term)?;
     Ok(Stage::ObjectiveNext)
 }
 
 /// A number, with the sign in front of it.
 fn objective_amount<'a>(
     negative: bool,
-    draft: &mut Draft,
+    told: &mut Told,
     spot: Spot,
-    quantity: &Quantity,
+    quantity: &Quantity<'_>,
 ) -> Result<Stage<'a>, OrMemory<ModelFault>>
-    ensures { Meets result (λ stage. stage_of stage draft.new) (defs.objective_amount negative (spot_of spot) (quantity_of quantity.now) draft.old.model) }
+    ensures { Meets result (λ stage. stage_of stage told.new) (defs.objective_amount negative (spot_of spot) (quantity_of quantity.now) told.old.draft.model) }
 {
-    let value = quantity.signed_value(negative, spot)?;
-    Ok(Stage::ObjectiveNumber(spot, value))
+    quantity.signed_value(negative, spot, &mut told.number)?;
+    Ok(Stage::ObjectiveNumber(spot))
 }
 
 /// A sign stands before a number or a name.
 pub(crate) fn after_objective_sign<'a>(
     alloc: Global,
     negative: bool,
-    draft: &mut Draft,
+    told: &mut Told,
     spot: Spot,
-    symbol: &Symbol<'_>,
+    symbol: &Symbol<'_, '_>,
 ) -> Result<Stage<'a>, OrMemory<ModelFault>>
-    ensures { Meets result (λ stage. stage_of stage draft.new) (defs.after_objective_sign negative (spot_of spot) (symbol_of symbol.now) draft.old.model) }
+    ensures { Meets result (λ stage. stage_of stage told.new) (defs.after_objective_sign negative (spot_of spot) (symbol_of symbol.now) told.old.draft.model) }
 {
     match symbol {
-        Symbol::Number { quantity, .. } => objective_amount(negative, draft, spot, quantity),
-        Symbol::Name(name) => objective_term(alloc, draft, &Summand::lone(negative, spot, *name)),
+        Symbol::Number { quantity, .. } => objective_amount(negative, told, spot, quantity),
+        Symbol::Name(name) => objective_term(alloc, told, &Summand::lone(negative, spot, *name)),
         _ => Err(spot.fault(FaultWord::Word)),
     }
 }
 
 /// A further term begins with a sign, or with a number that has one.
 pub(crate) fn after_objective_term<'a>(
-    draft: &mut Draft,
+    told: &mut Told,
     spot: Spot,
-    symbol: &Symbol<'_>,
+    symbol: &Symbol<'_, '_>,
 ) -> Result<Stage<'a>, OrMemory<ModelFault>>
-    ensures { Meets result (λ stage. stage_of stage draft.new) (defs.after_objective_term (spot_of spot) (symbol_of symbol.now) draft.old.model) }
+    ensures { Meets result (λ stage. stage_of stage told.new) (defs.after_objective_term (spot_of spot) (symbol_of symbol.now) told.old.draft.model) }
 {
     match symbol {
         Symbol::Sign { negative } => Ok(Stage::ObjectiveSign(*negative)),
         Symbol::Number {
             signed: true,
             quantity,
-        } => objective_amount(false, draft, spot, quantity),
-        Symbol::Keyword(word) => after_objective(draft, spot, *word),
+        } => objective_amount(false, told, spot, quantity),
+        Symbol::Keyword(word) => after_objective(told, spot, *word),
         _ => Err(spot.fault(FaultWord::Word)),
     }
 }
@@ -129,32 +129,32 @@ pub(crate) fn after_objective_term<'a>(
 /// The first term needs no sign.
 pub(crate) fn after_objective_label<'a>(
     alloc: Global,
-    draft: &mut Draft,
+    told: &mut Told,
     spot: Spot,
-    symbol: &Symbol<'_>,
+    symbol: &Symbol<'_, '_>,
 ) -> Result<Stage<'a>, OrMemory<ModelFault>>
-    ensures { Meets result (λ stage. stage_of stage draft.new) (defs.after_objective_label (spot_of spot) (symbol_of symbol.now) draft.old.model) }
+    ensures { Meets result (λ stage. stage_of stage told.new) (defs.after_objective_label (spot_of spot) (symbol_of symbol.now) told.old.draft.model) }
 {
     match symbol {
-        Symbol::Number { quantity, .. } => objective_amount(false, draft, spot, quantity),
-        Symbol::Name(name) => objective_term(alloc, draft, &Summand::lone(false, spot, *name)),
-        _ => after_objective_term(draft, spot, symbol),
+        Symbol::Number { quantity, .. } => objective_amount(false, told, spot, quantity),
+        Symbol::Name(name) => objective_term(alloc, told, &Summand::lone(false, spot, *name)),
+        _ => after_objective_term(told, spot, symbol),
     }
 }
 
 /// An objective may have a label, which is dropped.
 pub(crate) fn after_objective_word<'a>(
     alloc: Global,
-    draft: &mut Draft,
+    told: &mut Told,
     spot: Spot,
-    symbol: &Symbol<'a>,
+    symbol: &Symbol<'a, '_>,
 ) -> Result<Stage<'a>, OrMemory<ModelFault>>
-    ensures { Meets result (λ stage. stage_of stage draft.new) (defs.after_objective_word (spot_of spot) (symbol_of symbol.now) draft.old.model) }
+    ensures { Meets result (λ stage. stage_of stage told.new) (defs.after_objective_word (spot_of spot) (symbol_of symbol.now) told.old.draft.model) }
 {
     match symbol {
         Symbol::Label(_) => Ok(Stage::ObjectiveFirst),
         Symbol::Name(name) => Ok(Stage::ObjectiveTitle(spot, *name)),
-        _ => after_objective_label(alloc, draft, spot, symbol),
+        _ => after_objective_label(alloc, told, spot, symbol),
     }
 }
 
@@ -174,36 +174,35 @@ pub(crate) fn after_objective_title<'a>(
     alloc: Global,
     title_spot: Spot,
     title: &[u8],
-    draft: &mut Draft,
+    told: &mut Told,
     spot: Spot,
-    symbol: &Symbol<'_>,
+    symbol: &Symbol<'_, '_>,
 ) -> Result<Stage<'a>, OrMemory<ModelFault>>
-    ensures { Meets result (λ stage. stage_of stage draft.new)
-        (defs.after_objective_title (spot_of title_spot) title.now (spot_of spot) (symbol_of symbol.now) draft.old.model) }
+    ensures { Meets result (λ stage. stage_of stage told.new)
+        (defs.after_objective_title (spot_of title_spot) title.now (spot_of spot) (symbol_of symbol.now) told.old.draft.model) }
 {
     if let Symbol::Colon = symbol {
         return Ok(Stage::ObjectiveFirst);
     }
-    settle_objective_title(alloc, title_spot, title, draft)?;
-    after_objective_term(draft, spot, symbol)
+    settle_objective_title(alloc, title_spot, title, &mut told.draft)?;
+    after_objective_term(told, spot, symbol)
 }
 
 /// A name behind a number is its term's. A number that no name follows is added to the constant.
 pub(crate) fn after_objective_number<'a>(
     alloc: Global,
     number_spot: Spot,
-    number: &Frac,
-    draft: &mut Draft,
+    told: &mut Told,
     spot: Spot,
-    symbol: &Symbol<'_>,
+    symbol: &Symbol<'_, '_>,
 ) -> Result<Stage<'a>, OrMemory<ModelFault>>
-    ensures { Meets result (λ stage. stage_of stage draft.new)
-        (defs.after_objective_number (spot_of number_spot) number.now (spot_of spot) (symbol_of symbol.now) draft.old.model) }
+    ensures { Meets result (λ stage. stage_of stage told.new)
+        (defs.after_objective_number (spot_of number_spot) told.old.number (spot_of spot) (symbol_of symbol.now) told.old.draft.model) }
 {
     if let Symbol::Name(name) = symbol {
-        let term = Summand::numbered(number_spot, *number, spot, *name);
-        return objective_term(alloc, draft, &term);
+        let term = Summand::numbered(number_spot, told.number, spot, *name);
+        return objective_term(alloc, told, &term);
     }
-    draft.add_to_constant(number_spot, *number)?;
-    after_objective_term(draft, spot, symbol)
+    told.draft.add_to_constant(number_spot, told.number)?;
+    after_objective_term(told, spot, symbol)
 }

@@ -1,5 +1,6 @@
 //! Numbers under a sign, as values and as bounds.
-ghost use Rattle.std.specs.Prelude.{◌≡◌, option_map};
+ghost use Rattle.std.specs.Prelude.{◌≡◌, Some};
+ghost use Rattle.frac128.specs.Fraction.{Fraction};
 ghost use Rattle.lp_defs.specs.Quantity as defs;
 ghost use Rattle.lp_defs.specs.Symbols as seen;
 ghost use Rattle.lp_parse.specs.Meaning.{limit_of, quantity_of, spot_of};
@@ -12,104 +13,104 @@ use frac128::Frac;
 use lp_defs::ModelFault;
 use model_data::{BOUND_SIZE, Sense};
 
-/// What a bound is set to.
+/// What a bound is set to. The number of a finite one stands elsewhere.
 #[derive(Clone, Copy, Debug, PartialEq, Eq)]
 pub(crate) enum Limit {
-    Limited(Frac),
+    Limited,
     Unlimited { below: bool },
 }
 
-impl Quantity {
-    /// The number with a sign in front of it.
-    pub(crate) fn under_sign(&self, negative: bool) -> Quantity
-        ensures { quantity_of result ≡ defs.under_sign negative (quantity_of self.now) }
-    {
-        if !negative {
-            return *self;
-        }
-        match self {
-            Quantity::Finite(value) => Quantity::Finite(value.neg()),
-            Quantity::TooWide { negative, huge } => Quantity::TooWide {
-                negative: !*negative,
-                huge: *huge,
-            },
-            Quantity::Infinite { negative } => Quantity::Infinite {
-                negative: !*negative,
-            },
-        }
-    }
-
-    /// The finite value of the number at the spot, with a sign in front of it.
+impl<'v> Quantity<'v> {
+    /// Reads the finite value of the number at the spot, with a sign in front of it.
     pub(crate) fn signed_value(
         &self,
         negative: bool,
         spot: Spot,
-    ) -> Result<Frac, OrMemory<ModelFault>>
-        ensures { Meets result (λ x. x) (seen.or_fault (spot_of spot) bad_number (defs.value_of (defs.under_sign negative (quantity_of self.now)))) }
+        number: &mut Frac,
+    ) -> Result<(), OrMemory<ModelFault>>
+        ensures { Meets result (λ _. number.new) (seen.or_fault (spot_of spot) bad_number (defs.value_of (defs.under_sign negative (quantity_of self.now)))) }
     {
-        match self.under_sign(negative) {
-            Quantity::Finite(value) => Ok(value),
+        match self {
+            Quantity::Finite(value) => {
+                *number = under_sign(*value, negative);
+                Ok(())
+            }
             Quantity::TooWide { .. } | Quantity::Infinite { .. } => Err(spot.fault(
                 FaultWord::Number,
             )),
         }
     }
 
-    /// The bound that the number at the spot sets, with a sign in front of it.
+    /// Reads the bound that the number at the spot sets, with a sign in front of it.
     pub(crate) fn signed_limit(
         &self,
         negative: bool,
         spot: Spot,
+        number: &mut Frac,
     ) -> Result<Limit, OrMemory<ModelFault>>
-        ensures { Meets result limit_of (seen.or_fault (spot_of spot) bad_number (defs.limit_of (defs.under_sign negative (quantity_of self.now)))) }
-    {
-        match self.under_sign(negative).limit() {
-            Some(limit) => Ok(limit),
-            None => Err(spot.fault(FaultWord::Number)),
-        }
-    }
-
-    fn limit(&self) -> Option<Limit>
-        ensures { option_map limit_of result ≡ defs.limit_of (quantity_of self.now) }
+        ensures { Meets result (λ limit. limit_of limit number.new)
+            (seen.or_fault (spot_of spot) bad_number (defs.limit_of (defs.under_sign negative (quantity_of self.now)))) }
     {
         match self {
-            Quantity::Finite(value) if is_far(value) => Some(Limit::Unlimited {
-                below: value.num() < 0,
-            }),
-            Quantity::Finite(value) => Some(Limit::Limited(*value)),
-            Quantity::Infinite { negative }
+            Quantity::Finite(value) => {
+                *number = under_sign(*value, negative);
+                Ok(Limit::of_number(number))
+            }
+            Quantity::Infinite { negative: below }
             | Quantity::TooWide {
-                negative,
+                negative: below,
                 huge: true,
-            } => Some(Limit::Unlimited { below: *negative }),
-            Quantity::TooWide { huge: false, .. } => None,
+            } => Ok(Limit::Unlimited {
+                below: *below != negative,
+            }),
+            Quantity::TooWide { huge: false, .. } => Err(spot.fault(FaultWord::Number)),
         }
     }
 }
 
 impl Limit {
+    /// The limit that a finite number sets. One of 10^20 in size is none.
+    fn of_number(number: &Frac) -> Limit
+        ensures { Some (limit_of result number.now) ≡ defs.limit_of (seen.finite number.now) }
+    {
+        if is_far(number) {
+            Limit::Unlimited {
+                below: number.num() < 0,
+            }
+        } else {
+            Limit::Limited
+        }
+    }
+
     /// Whether a variable may be at most, at least or equal to it.
-    pub(crate) fn may_bound(&self, sense: Sense) -> bool
-        ensures { result ≡ defs.may_bound sense (limit_of self.now) }
+    pub(crate) fn may_bound(self, sense: Sense) -> bool
+        ensures { (x : Fraction) → result ≡ defs.may_bound sense (limit_of self x) }
     {
         match self {
-            Limit::Limited(_) => true,
+            Limit::Limited => true,
             Limit::Unlimited { below } => match sense {
-                Sense::Less => !*below,
-                Sense::Greater => *below,
+                Sense::Less => !below,
+                Sense::Greater => below,
                 Sense::Equal => false,
             },
         }
     }
 
-    pub(crate) fn bound(&self) -> Option<Frac>
-        ensures { result ≡ defs.bound_of (limit_of self.now) }
+    pub(crate) fn bound(self, number: &Frac) -> Option<Frac>
+        ensures { result ≡ defs.bound_of (limit_of self number.now) }
     {
         match self {
-            Limit::Limited(value) => Some(*value),
+            Limit::Limited => Some(*number),
             Limit::Unlimited { .. } => None,
         }
     }
+}
+
+/// The number with a sign in front of it.
+fn under_sign(value: &Frac, negative: bool) -> Frac
+    ensures { seen.finite result ≡ defs.under_sign negative (seen.finite value.now) }
+{
+    if negative { value.neg() } else { *value }
 }
 
 /// Whether it is at least 10^20 in size.

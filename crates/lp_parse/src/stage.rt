@@ -1,7 +1,6 @@
 //! How far a text has been read: which production is going on.
 use crate::quantity::Limit;
 use crate::symbol::Spot;
-use frac128::Frac;
 use model_data::{Sense, VarKind};
 
 /// The second word of a constraints word of two.
@@ -11,7 +10,8 @@ pub(crate) enum SecondWord {
     That,
 }
 
-/// A production that is going on. What has been told so far stands in the draft.
+/// A production that is going on. What has been told so far stands in the draft, and a number that waits for what it
+/// belongs to beside it.
 #[derive(Clone, Copy, Debug)]
 pub(crate) enum Stage<'a> {
     /// Nothing is read.
@@ -25,7 +25,7 @@ pub(crate) enum Stage<'a> {
     /// Behind a sign, minus or not: a number or a name.
     ObjectiveSign(bool),
     /// Behind a number: its name, or else it belongs to the constant.
-    ObjectiveNumber(Spot, Frac),
+    ObjectiveNumber(Spot),
     /// Behind a term: a further one with a sign, or the constraints word.
     ObjectiveNext,
     /// Behind `subject` or `such`.
@@ -41,7 +41,7 @@ pub(crate) enum Stage<'a> {
     /// Behind a sign: whether it is the first term's, and a minus.
     RowSign(bool, bool),
     /// Behind a number, the first term's or a later one's: its name.
-    RowNumber(bool, Spot, Frac),
+    RowNumber(bool, Spot),
     /// Behind a term: a further one with a sign, or the comparison.
     RowNext,
     /// Behind the comparison: a sign or the right side.

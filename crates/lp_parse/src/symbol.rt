@@ -2,11 +2,13 @@
 ghost use Rattle.std.specs.Prelude.{◌≡◌, codes};
 ghost use Rattle.lp_defs.specs.Kinds.{begins_with, front_of};
 ghost use Rattle.lp_defs.specs.Symbols as seen;
+ghost use Rattle.lp_lex.specs.Class.{kind_with};
 ghost use Rattle.lp_parse.specs.Meaning.{spot_of, symbol_of};
 
 use base_names::{FaultWord, OrMemory};
 use frac128::Frac;
-use lp_defs::{LexFault, ModelFault, Place, SectionWord, Token, TokenKind};
+use lp_defs::{LexFault, ModelFault, Place, SectionWord};
+use lp_lex::{ClassedToken, TokenClass};
 use model_data::Sense;
 
 /// Where a token begins.
@@ -17,21 +19,26 @@ pub(crate) struct Spot {
 }
 
 /// A number, as far as it can be told by itself.
-#[derive(Clone, Copy, Debug, PartialEq, Eq)]
-pub(crate) enum Quantity {
-    Finite(Frac),
+#[derive(Clone, Copy, Debug)]
+pub(crate) enum Quantity<'v> {
+    Finite(&'v Frac),
     TooWide { negative: bool, huge: bool },
     Infinite { negative: bool },
 }
 
-/// A token.
+/// A token. Names stand in the text, and the value of a number where the lexer has put it.
 #[derive(Clone, Copy, Debug)]
-pub(crate) enum Symbol<'a> {
-    Sign { negative: bool },
+pub(crate) enum Symbol<'a, 'v> {
+    Sign {
+        negative: bool,
+    },
     Colon,
     Comparison(Sense),
     /// `signed` says that the token begins with a sign.
-    Number { signed: bool, quantity: Quantity },
+    Number {
+        signed: bool,
+        quantity: Quantity<'v>,
+    },
     Keyword(SectionWord),
     /// The name before the colon.
     Label(&'a [u8]),
@@ -39,7 +46,7 @@ pub(crate) enum Symbol<'a> {
 }
 
 impl Spot {
-    pub(crate) fn of_token(token: &Token) -> Spot
+    pub(crate) fn of_token(token: &ClassedToken) -> Spot
         ensures { spot_of result ≡ record { line = token.now.line; column = token.now.column } }
     {
         Spot {
@@ -85,38 +92,32 @@ pub(crate) fn fault_of_run(fault: LexFault) -> ModelFault
     }
 }
 
-/// What the grammar sees of a token of the kind with these bytes.
-pub(crate) fn symbol_of<'a>(kind: &TokenKind, bytes: &'a [u8]) -> Symbol<'a>
-    ensures { symbol_of result ≡ seen.symbol_of kind.now bytes.now }
+/// What the grammar sees of a token of the class with this value and these bytes.
+pub(crate) fn symbol_of<'a, 'v>(
+    class: TokenClass,
+    value: &'v Frac,
+    bytes: &'a [u8],
+) -> Symbol<'a, 'v>
+    ensures { symbol_of result ≡ seen.symbol_of (kind_with class value.now) bytes.now }
 {
-    match kind {
-        TokenKind::Sign { negative } => Symbol::Sign {
-            negative: *negative,
-        },
-        TokenKind::Colon => Symbol::Colon,
-        TokenKind::Comparison(sense) => Symbol::Comparison(*sense),
-        TokenKind::Number(value) => number(bytes, Quantity::Finite(*value)),
-        TokenKind::TooWide { negative, huge } => number(
+    match class {
+        TokenClass::Sign { negative } => Symbol::Sign { negative },
+        TokenClass::Colon => Symbol::Colon,
+        TokenClass::Comparison(sense) => Symbol::Comparison(sense),
+        TokenClass::Number => number(bytes, Quantity::Finite(value)),
+        TokenClass::TooWide { negative, huge } => number(
             bytes,
-            Quantity::TooWide {
-                negative: *negative,
-                huge: *huge,
-            },
+            Quantity::TooWide { negative, huge },
         ),
-        TokenKind::Infinite { negative } => number(
-            bytes,
-            Quantity::Infinite {
-                negative: *negative,
-            },
-        ),
-        TokenKind::Section(word) => Symbol::Keyword(*word),
-        TokenKind::Label => Symbol::Label(front_of(bytes)),
-        TokenKind::Name => Symbol::Name(bytes),
+        TokenClass::Infinite { negative } => number(bytes, Quantity::Infinite { negative }),
+        TokenClass::Section(word) => Symbol::Keyword(word),
+        TokenClass::Label => Symbol::Label(front_of(bytes)),
+        TokenClass::Name => Symbol::Name(bytes),
     }
 }
 
-fn number<'a>(bytes: &'a [u8], quantity: Quantity) -> Symbol<'a>
-    ensures { result ≡ Symbol.Number (begins_with (codes "+-") bytes.now) quantity }
+fn number<'a, 'v>(bytes: &'a [u8], quantity: Quantity<'v>) -> Symbol<'a, 'v>
+    ensures { result ≡ Symbol.Number (begins_with (codes "+-") bytes.now) quantity.entry }
 {
     Symbol::Number {
         signed: begins_with_sign(bytes),

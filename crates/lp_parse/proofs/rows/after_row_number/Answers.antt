@@ -7,5 +7,5 @@ use Rattle.lp_parse.proofs.rows.after_row_number.Goals as goal
 
 pub returns-in-Name : goal.returns-in-Name
 returns-in-Name c =
-    let told = ap (λ (s : Summand). defs.row_term s c.args.draft.now) c.numbered-term.ensures in
-    rw c.in-Name.is (met_as c.row_term.result (λ stage. stage_of stage c.row_term.new.draft) told c.row_term.ensures)
+    let told = ap (λ (s : Summand). defs.row_term s c.args.told.now.draft) c.numbered-term.ensures in
+    rw c.in-Name.is (met_as c.row_term.result (λ stage. stage_of stage c.row_term.new.told) told c.row_term.ensures)

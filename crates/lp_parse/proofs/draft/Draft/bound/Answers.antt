@@ -16,14 +16,14 @@ bound_keeps_name Equal limit v = refl
 pub invariant_of-self : goal.invariant_of-self
 invariant_of-self c =
     sound_set c.self.invariant c.in-Some.place _ c.index_mut.result.now
-    (ap (λ (v : Var). v.name) c.set_bound.ensures ∙ bound_keeps_name c.args.sense (limit_of c.args.limit.now) _
+    (ap (λ (v : Var). v.name) c.set_bound.ensures ∙ bound_keeps_name c.args.sense (limit_of c.args.limit c.args.number.now) _
     ∙ ap (λ (v : Var). v.name) c.index_mut.ensures.value)
 
 pub returns-in-Some : goal.returns-in-Some
 returns-in-Some c =
-    written c.self.inside c.self.invariant c.self.view_is c.args.name.now (with_bound c.args.sense (limit_of c.args.limit.now))
+    written c.self.inside c.self.invariant c.self.view_is c.args.name.now (with_bound c.args.sense (limit_of c.args.limit c.args.number.now))
     c.in-Some.ensures.place c.in-Some.ensures.found c.index_mut.ensures.value c.set_bound.ensures
 
 pub returns-in_default : goal.returns-in_default
 returns-in_default c =
-    kept c.self.inside c.self.invariant c.self.view_is c.args.name.now (with_bound c.args.sense (limit_of c.args.limit.now)) c.in_default.ensures.found
+    kept c.self.inside c.self.invariant c.self.view_is c.args.name.now (with_bound c.args.sense (limit_of c.args.limit c.args.number.now)) c.in_default.ensures.found
