@@ -237,6 +237,11 @@ tie : leaving_row (ratio 1 4 (part 1 2) ∷ ratio 2 3 (part 1 2) ∷ ratio 3 2 (
 unfolding leaving_row
 tie = refl
 
+-- and so the artificial variable before each other one, also where its row stands behind
+artificial_tie : leaving_row (ratio 1 1 (part 1 2) ∷ ratio 2 0 (part 1 2) ∷ []) ≡ Some 2
+unfolding leaving_row
+artificial_tie = refl
+
 -- ---- the first operation that does not fit
 
 -- the constant is divided

@@ -13,6 +13,7 @@ pub mod Ending
 pub mod ExactSteps
 pub mod FirstStep
 pub mod FormEnds
+pub mod FormNumbers
 pub mod KeptForm
 pub mod Lifted
 pub mod LowestForm
