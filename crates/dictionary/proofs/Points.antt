@@ -2,6 +2,7 @@
 pub mod Bounded
 pub mod Chosen
 pub mod EndPhase
+pub mod Exact
 pub mod ExactPivot
 pub mod Feasible
 pub mod FirstPivot

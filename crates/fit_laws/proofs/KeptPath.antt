@@ -33,7 +33,7 @@ kept_sum x y z p q h = by_test (sum_fits x y) refl h
     by_test true fits e = subst IsKept (same_ok _ _ e) (IsKept-sum x y p q fits)
     by_test false fits e = absurd cc
 
-kept_difference : (x y z : Fraction) → IsKept x → IsKept y → checked_difference x y ≡ Ok z → IsKept z
+pub kept_difference : (x y z : Fraction) → IsKept x → IsKept y → checked_difference x y ≡ Ok z → IsKept z
 kept_difference x y z p q h = by_test (difference_fits x y) refl h
   where
     by_test : (b : Bool) → difference_fits x y ≡ b → value_or_wide b (exact_difference x y) Sub x y ≡ Ok z → IsKept z
@@ -54,10 +54,10 @@ kept_quotient x y z p q some h = by_test (quotient_fits x y) refl h
     by_test true fits e = subst IsKept (same_ok _ _ e) (IsKept-quotient x y some p q fits)
     by_test false fits e = absurd cc
 
-kept_less : (f x y z : Fraction) → IsKept f → IsKept x → IsKept y → less_product f x y ≡ Ok z → IsKept z
+pub kept_less : (f x y z : Fraction) → IsKept f → IsKept x → IsKept y → less_product f x y ≡ Ok z → IsKept z
 kept_less f x y z p q r h = let made = through (checked_product f y) _ z h in kept_difference x made.value z q (kept_product f y made.value p r made.first) made.rest
 
-kept_plus : (f x y z : Fraction) → IsKept f → IsKept x → IsKept y → plus_product f x y ≡ Ok z → IsKept z
+pub kept_plus : (f x y z : Fraction) → IsKept f → IsKept x → IsKept y → plus_product f x y ≡ Ok z → IsKept z
 kept_plus f x y z p q r h = let made = through (checked_product f y) _ z h in kept_sum x made.value z q (kept_product f y made.value p r made.first) made.rest
 
 -- ---- rows
@@ -272,12 +272,3 @@ dual_fits d kept = weights_kept d d.objective kept.objective
 pub farkas_fits : (d : Dictionary) (w : List Fraction) → d.auxiliary ≡ Some w → HasKeptEntries d → All IsKept (farkas_of d).ys
 unfolding farkas_of
 farkas_fits d w is_w kept = subst (λ o. All IsKept (duals d (unwrap_or o [])).ys) (sym is_w) (weights_kept d w (subst (λ o. IfSome o (All IsKept)) is_w kept.auxiliary))
-
--- What can be kept is in lowest terms.
-pub kept_is_lowest : (s : Std) → HasKeptForm s → HasReducedNumbers s
-kept_is_lowest s kept = record {
-  coefs = λ k e within i d inside. let own = kept.coefs k e within i d inside in own.nothing_in_common;
-  sides = λ k e within. let own = kept.sides k e within in own.nothing_in_common;
-  obj = λ k e within. let own = kept.obj k e within in own.nothing_in_common;
-  constant = let own = kept.constant in own.nothing_in_common;
-}

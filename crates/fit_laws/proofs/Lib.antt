@@ -1,3 +1,4 @@
 pub mod Equalities
+pub mod KeptForms
 pub mod KeptPath
 pub mod Weights

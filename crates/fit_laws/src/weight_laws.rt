@@ -17,7 +17,7 @@ ghost use Rattle.solve_defs.specs.Values.{value_at};
 ghost use Rattle.solve_defs.specs.declared.cut.Cut.{Cut};
 ghost use Rattle.solve_defs.specs.declared.solving.LpEnd.TheVariants.{Best, NoPoint};
 ghost use Rattle.relaxation_laws.specs.Reached.{IsInPhaseOne, IsInPhaseTwo, Relaxes};
-ghost use Rattle.fit_laws.specs.KeptEntries.{HasKeptForm};
+ghost use Rattle.fit_laws.specs.KeptEntries.{IsKeptCut};
 
 /// The two rows of an equality never both have a weight, neither by z in phase two nor by w in phase one.
 pub fn an_equality_weighs_once()
@@ -38,12 +38,12 @@ pub fn an_end_has_weights_to_bring_back()
         → (weights : Weights) × (weights_back m (shapes_of m cuts) (farkas_of d).ys (farkas_of d).reduced ≡ Ok weights) }
 {}
 
-/// Where the form's numbers fit, the weights of a relaxation that ends come back without a refused operation.
+/// The weights of a relaxation that ends come back without a refused operation.
 pub fn a_relaxation_that_ends_has_its_weights()
-    ensures best { (m : Model) (cuts : List Cut) (d : Dictionary) → IsLawful m → HasKeptNumbers m → (reached : IsReached m cuts d)
-        → HasKeptForm reached.form → coming d ≡ an_end Best
+    ensures best { (m : Model) (cuts : List Cut) (d : Dictionary) → IsLawful m → HasKeptNumbers m → All IsKeptCut cuts → IsReached m cuts d
+        → coming d ≡ an_end Best
         → (weights : Weights) × (weights_back m (shapes_of m cuts) (dual_of d).ys (dual_of d).reduced ≡ Ok weights) }
-    ensures no_point { (m : Model) (cuts : List Cut) (d : Dictionary) → IsLawful m → HasKeptNumbers m → (reached : IsReached m cuts d)
-        → HasKeptForm reached.form → coming d ≡ an_end NoPoint
+    ensures no_point { (m : Model) (cuts : List Cut) (d : Dictionary) → IsLawful m → HasKeptNumbers m → All IsKeptCut cuts → IsReached m cuts d
+        → coming d ≡ an_end NoPoint
         → (weights : Weights) × (weights_back m (shapes_of m cuts) (farkas_of d).ys (farkas_of d).reduced ≡ Ok weights) }
 {}

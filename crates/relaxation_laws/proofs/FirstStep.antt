@@ -20,7 +20,7 @@ use Rattle.dictionary.specs.Solutions.{HasFeasibleConstants, HasReducedNumbers, 
 use Rattle.dictionary.specs.declared.standard.Std.{Std}
 use Rattle.dictionary.specs.declared.standard.StdRow.{StdRow}
 use Rattle.dictionary.proofs.Opened.{length-numbers_from}
-use Rattle.dictionary.proofs.Points.FirstPivot.{opening_feasible, opening_pivots}
+use Rattle.dictionary.proofs.Points.FirstPivot.{opening-with, opening_feasible, opening_pivots}
 use Rattle.dictionary.proofs.Points.Lawful.{Turns, turn}
 use Rattle.dictionary.proofs.Points.Opening.{get_or-numbers_from, phase_one-opening}
 use Rattle.dictionary.proofs.Points.OwnPoint.{own_point-basic, own_point-feasible, own_point-nonbasic, sum_at-none}
@@ -32,10 +32,6 @@ use Rattle.solve_defs.specs.Path.{artificial, awaits_artificial, next, pivoted, 
 use Rattle.relaxation_laws.specs.Reached.{HasArtificialAbove, IsInPhaseOne, Reached, Relaxes, in_phase_one}
 use Rattle.relaxation_laws.proofs.ByRule.{is_basic-from, settled_one}
 use Rattle.relaxation_laws.proofs.KeptForm.{relaxes-pivot, relaxes-with, some-map}
-
-pub opening_with : (s : Std) → needs_phase_one s ≡ true → opening s ≡ with_artificial (without_artificial s)
-unfolding opening
-opening_with s needed = ap (λ b. cond b (with_artificial (without_artificial s)) (without_artificial s)) needed
 
 pub opening_without : (s : Std) → needs_phase_one s ≡ false → opening s ≡ without_artificial s
 unfolding opening
@@ -54,7 +50,7 @@ unfolding with_artificial without_artificial
 awaits_with s needed = rows_negative s.rows ∙ needed
 
 pub awaits_opening : (s : Std) → needs_phase_one s ≡ true → awaits_artificial (opening s) ≡ true
-awaits_opening s needed = ap awaits_artificial (opening_with s needed) ∙ awaits_with s needed
+awaits_opening s needed = ap awaits_artificial (opening-with s needed) ∙ awaits_with s needed
 
 some_least : (first : ℕ) (rows : List StdRow) → list_any (λ row. is_negative row.rhs) rows ≡ true
     → (r : ℕ) × (option_map (λ row. row.row) (best_among side_before (rows_from 0 1 (numbers_from first (length rows)) (map (λ r. r ++ negation one_value ∷ []) (map (λ row. row.rhs ∷ row.coefs) rows)))) ≡ Some r)
@@ -66,7 +62,7 @@ unfolding with_artificial without_artificial least_row
 least_with s needed = some_least (suc (length s.obj)) s.rows needed
 
 pub least_opening : (s : Std) → needs_phase_one s ≡ true → (r : ℕ) × (least_row (opening s) ≡ Some r)
-least_opening s needed = let found = least_with s needed in (found.0, ap least_row (opening_with s needed) ∙ found.1)
+least_opening s needed = let found = least_with s needed in (found.0, ap least_row (opening-with s needed) ∙ found.1)
 
 -- ---- the variables of an opening in phase one
 
@@ -224,6 +220,6 @@ artificial_step s f uniform low needed h =
     let is_pivot : pivot found.0 (artificial_column d) d ≡ Ok made.value = subst (λ o. pivot (unwrap_or o 0) (artificial_column d) d ≡ Ok made.value) found.1 made.first in
     let p = opening_pivots s found.0 made.value uniform low needed found.1 is_pivot in
     let constants = opening_feasible s found.0 made.value uniform low needed found.1 is_pivot in
-    let is = opening_with s needed in
+    let is = opening-with s needed in
     let reached = first_reached s found.0 made.value uniform low needed (subst (λ e. Pivots found.0 (artificial_column e) e made.value) is p) constants (subst IsPhaseOne is (phase_one-opening s uniform needed)) in
     subst (Reached s) (sym (artificial_basic s made.value reached.phase.artificial) ∙ same_ok _ _ made.rest) record { relaxes = reached.relaxes; phase = in_phase_one reached.row reached.phase }

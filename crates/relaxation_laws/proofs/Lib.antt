@@ -10,8 +10,10 @@ pub mod Bridge
 pub mod ByIndex
 pub mod ByRule
 pub mod Ending
+pub mod ExactSteps
 pub mod FirstStep
 pub mod FormEnds
+pub mod FormNumbers
 pub mod KeptForm
 pub mod Lifted
 pub mod LowestForm

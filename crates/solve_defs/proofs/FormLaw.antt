@@ -42,7 +42,7 @@ value_low (shifted l u) x y = apart_of-sum l x
 value_low (mirrored u) x y = apart_of-sum u (negation x)
 value_low free x y = apart_of-sum x (negation y)
 
-exact_values_low : (column : ℕ) (shapes : List Shape) (ys : List Fraction) → Each IsInLowestTerms (exact_values_from column shapes ys)
+pub exact_values_low : (column : ℕ) (shapes : List Shape) (ys : List Fraction) → Each IsInLowestTerms (exact_values_from column shapes ys)
 exact_values_low column [] ys = tt
 exact_values_low column (shape ∷ shapes) ys = (value_low shape (value_at ys column) (value_at ys (suc column)), exact_values_low (column + width shape) shapes ys)
 

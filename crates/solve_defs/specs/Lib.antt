@@ -4,6 +4,7 @@ pub mod Cases
 pub mod Certificates
 pub mod Columns
 pub mod Ends
+pub mod ExactRelaxation
 pub mod LeafWeights
 pub mod Looks
 pub mod Nodes

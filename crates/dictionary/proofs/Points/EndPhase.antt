@@ -23,10 +23,10 @@ use Rattle.dictionary.proofs.Points.Turned.{rest, same_front, sum_at-place, told
 
 -- ---- the artificial variable's place
 
-abbrev place : Dictionary → ℕ
+abbrev pub place : Dictionary → ℕ
 place d = place_of d.nonbasic 0
 
-place-within : (d : Dictionary) → Contains d.nonbasic 0 → place d < length d.nonbasic
+pub place-within : (d : Dictionary) → Contains d.nonbasic 0 → place d < length d.nonbasic
 place-within d found =
     ⊎_elim (λ within. within)
     (λ past. let within = found.1 in absurd (true≢false (sym (eq-eqb _ _ found.2) ∙ fails_before_first (λ v. v == 0) d.nonbasic found.0 0 (omega (arith, past, within)))))
@@ -50,7 +50,7 @@ same_constant n p [] wide = refl
 same_constant n p (k ∷ entries) wide = refl
 
 -- without the column of the place
-without_column : ℕ → Dictionary → Dictionary
+unfoldable pub without_column : ℕ → Dictionary → Dictionary
 without_column p d = record {
   basic = d.basic;
   nonbasic = remove d.nonbasic p;
@@ -59,7 +59,7 @@ without_column p d = record {
   auxiliary = None;
 }
 
-ended : (d : Dictionary) → end_phase_one d ≡ without_column (place d) d
+pub ended : (d : Dictionary) → end_phase_one d ≡ without_column (place d) d
 unfolding end_phase_one without_column
 ended d = ap (λ p. let e : Dictionary = record { basic = d.basic; nonbasic = remove d.nonbasic p; rows = map (λ row. remove row (suc (place d))) d.rows; objective = remove d.objective (suc (place d)); auxiliary = None } in e) (less_one (place d))
 

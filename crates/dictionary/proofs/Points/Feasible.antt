@@ -86,7 +86,7 @@ solved_at_least i j d e lawful constants h leaves =
     subst (IsAtMost zero_value) (leaving_quotient i j d e h leaves)
     (quotient_at_least (entry row 0) (entry row (suc j)) (All-get_or (λ r. IsAtMost zero_value (entry r 0)) d.rows leaves.place [] (omega (arith, same, below)) constants) (above_from_positive (entry row (suc j)) leaves.positive))
 
-feasible_by_turn : (i j : ℕ) (d e : Dictionary) → IsLawful d → HasFeasibleConstants d → Turns i j d e → Leaves (suc i) (suc j) d → HasFeasibleConstants e
+pub feasible_by_turn : (i j : ℕ) (d e : Dictionary) → IsLawful d → HasFeasibleConstants d → Turns i j d e → Leaves (suc i) (suc j) d → HasFeasibleConstants e
 feasible_by_turn i j d e lawful constants h leaves =
     let v = entry h.solved 0 in
     let same = lawful.shape.rows in
@@ -112,21 +112,21 @@ feasible_by_rule (suc i) zero d e lawful constants h = absurd (let pivots = by_r
 feasible_by_rule (suc i) (suc j) d e lawful constants h =
     feasible_by_turn i j d e lawful constants (turn i j d e lawful (by_rule (suc i) (suc j) d e lawful h)) (leaving-some d (suc j) (suc i) h.compared lawful.shape h.are_ratios h.leaves)
 
-maximized-turned : (i j : ℕ) (solved : List Fraction) (d : Dictionary) → maximized_row (turned i j solved d) ≡ other_objective j solved (maximized_row d)
+pub maximized-turned : (i j : ℕ) (solved : List Fraction) (d : Dictionary) → maximized_row (turned i j solved d) ≡ other_objective j solved (maximized_row d)
 maximized-turned i j solved d = of_option d.auxiliary
   where
     of_option : (o : Option (List Fraction)) → unwrap_or (option_map (other_objective j solved) o) (other_objective j solved d.objective) ≡ other_objective j solved (unwrap_or o d.objective)
     of_option None = refl
     of_option (Some w) = refl
 
-maximized-reduced : (d : Dictionary) → IsLawful d → IsInLowestTerms (entry (maximized_row d) 0)
+pub maximized-reduced : (d : Dictionary) → IsLawful d → IsInLowestTerms (entry (maximized_row d) 0)
 maximized-reduced d lawful = constant-wide (length d.nonbasic) (maximized_row d) (maximized-wide d lawful.shape) (of_option d.auxiliary lawful.reduced.auxiliary)
   where
     of_option : (o : Option (List Fraction)) → IfSome o (All IsInLowestTerms) → All IsInLowestTerms (unwrap_or o d.objective)
     of_option None h = lawful.reduced.objective
     of_option (Some w) h = h
 
-rises_by_turn : (i j : ℕ) (d e : Dictionary) → IsLawful d → HasFeasibleConstants d → Turns i j d e → Leaves (suc i) (suc j) d → Enters (suc j) d → IsAtMost (entry (maximized_row d) 0) (entry (maximized_row e) 0)
+pub rises_by_turn : (i j : ℕ) (d e : Dictionary) → IsLawful d → HasFeasibleConstants d → Turns i j d e → Leaves (suc i) (suc j) d → Enters (suc j) d → IsAtMost (entry (maximized_row d) 0) (entry (maximized_row e) 0)
 rises_by_turn i j d e lawful constants h leaves enters =
     let v = entry h.solved 0 in
     let z = entry (maximized_row d) 0 in

@@ -69,7 +69,7 @@ least-known r d same h =
 
 -- ---- with the artificial variable
 
-same_column : (d : Dictionary) → HasNoArtificial d → artificial_column (with_artificial d) ≡ suc (length d.nonbasic)
+pub same_column : (d : Dictionary) → HasNoArtificial d → artificial_column (with_artificial d) ≡ suc (length d.nonbasic)
 unfolding with_artificial
 same_column d none =
     let others = All-right (λ v. v ≢ 0) d.basic d.nonbasic none in
@@ -79,11 +79,11 @@ same_column d none =
     (λ within. eq-eqb _ _ (get_or_push d.nonbasic 0 0 (length d.nonbasic) refl)))
 
 -- a row of the dictionary with it, by the row before
-record WithArtificial (d : Dictionary) (k : ℕ) : Type 0 where
-  constant : entry (slice_index_or (with_artificial d).rows k []) 0 ≡ entry (slice_index_or d.rows k []) 0
-  last : entry (slice_index_or (with_artificial d).rows k []) (suc (length d.nonbasic)) ≡ negation one_value
+pub record WithArtificial (d : Dictionary) (k : ℕ) : Type 0 where
+  pub constant : entry (slice_index_or (with_artificial d).rows k []) 0 ≡ entry (slice_index_or d.rows k []) 0
+  pub last : entry (slice_index_or (with_artificial d).rows k []) (suc (length d.nonbasic)) ≡ negation one_value
 
-row_with : (d : Dictionary) (k : ℕ) → IsLawful d → k < length d.rows → WithArtificial d k
+pub row_with : (d : Dictionary) (k : ℕ) → IsLawful d → k < length d.rows → WithArtificial d k
 unfolding with_artificial
 row_with d k lawful within =
     let row = slice_index_or d.rows k [] in
@@ -107,20 +107,20 @@ less_least x y low =
     ap (λ s. x ⊕ minus s) (exact_product-negation_left one_value (negation y) ∙ ap negation (exact_product-negation_right one_value y) ∙ negation-negation (one_value ⊗ y) ∙ exact_product-one_left y low)
     ∙ ap (λ s. x ⊕ s) (minus_is y)
 
-same_rows : (d : Dictionary) → length (with_artificial d).rows ≡ length d.rows
+pub same_rows : (d : Dictionary) → length (with_artificial d).rows ≡ length d.rows
 unfolding with_artificial
 same_rows d = length-map d.rows (λ r. r ++ negation one_value ∷ [])
 
-same_basic : (d : Dictionary) → (with_artificial d).basic ≡ d.basic
+pub same_basic : (d : Dictionary) → (with_artificial d).basic ≡ d.basic
 unfolding with_artificial
 same_basic d = refl
 
-one_column_more : (d : Dictionary) → length (with_artificial d).nonbasic ≡ suc (length d.nonbasic)
+pub one_column_more : (d : Dictionary) → length (with_artificial d).nonbasic ≡ suc (length d.nonbasic)
 unfolding with_artificial
 one_column_more d = length-append d.nonbasic (0 ∷ []) ∙ omega arith
 
 -- where the least constant of d is at most 0
-feasible_first : (i : ℕ) (d e : Dictionary) → IsLawful d → (h : Turns i (length d.nonbasic) (with_artificial d) e) → i < length d.rows → IsAtMost (entry (slice_index_or d.rows i []) 0) zero_value
+pub feasible_first : (i : ℕ) (d e : Dictionary) → IsLawful d → (h : Turns i (length d.nonbasic) (with_artificial d) e) → i < length d.rows → IsAtMost (entry (slice_index_or d.rows i []) 0) zero_value
     → ((k : ℕ) → k < length d.rows → IsAtMost (entry (slice_index_or d.rows i []) 0) (entry (slice_index_or d.rows k []) 0)) → HasFeasibleConstants e
 feasible_first i d e lawful h within low least =
     let n = length d.nonbasic in
@@ -159,10 +159,10 @@ least_with r d lawful h =
           subst₂ IsAtMost own.constant other.constant (found.least k (omega (arith, long, k_within)));
     }
 
-minus_one-not_zero : (negation one_value).num ≢ pos 0
+pub minus_one-not_zero : (negation one_value).num ≢ pos 0
 minus_one-not_zero e = omega (arith, ints, e)
 
-first_pivots : (r : ℕ) (d e : Dictionary) → IsLawful d → HasNoArtificial d → least_row (with_artificial d) ≡ Some r → pivot r (artificial_column (with_artificial d)) (with_artificial d) ≡ Ok e → Pivots r (artificial_column (with_artificial d)) (with_artificial d) e
+pub first_pivots : (r : ℕ) (d e : Dictionary) → IsLawful d → HasNoArtificial d → least_row (with_artificial d) ≡ Some r → pivot r (artificial_column (with_artificial d)) (with_artificial d) ≡ Ok e → Pivots r (artificial_column (with_artificial d)) (with_artificial d) e
 first_pivots r d e lawful none h made =
     let least = least_with r d lawful h in
     let is = least.is_row in
@@ -193,7 +193,7 @@ first_feasible r d e lawful none limit h made k k_within low =
 
 -- ---- the opening dictionary
 
-opening-with : (s : Std) → needs_phase_one s ≡ true → opening s ≡ with_artificial (without_artificial s)
+pub opening-with : (s : Std) → needs_phase_one s ≡ true → opening s ≡ with_artificial (without_artificial s)
 unfolding opening
 opening-with s needed = ap (λ b. cond b (with_artificial (without_artificial s)) (without_artificial s)) needed
 
@@ -205,12 +205,12 @@ below_from_negative x h = record { at_most = by_sign x.num (den x) h }
     by_sign (negsuc n) d e = omega (arith, ints)
 
 -- a row whose constant is below 0
-record NegativeRow (d : Dictionary) : Type 0 where
-  place : ℕ
-  within : place < length d.rows
-  low : IsAtMost (entry (slice_index_or d.rows place []) 0) zero_value
+pub record NegativeRow (d : Dictionary) : Type 0 where
+  pub place : ℕ
+  pub within : place < length d.rows
+  pub low : IsAtMost (entry (slice_index_or d.rows place []) 0) zero_value
 
-negative_row : (s : Std) → needs_phase_one s ≡ true → NegativeRow (without_artificial s)
+pub negative_row : (s : Std) → needs_phase_one s ≡ true → NegativeRow (without_artificial s)
 unfolding without_artificial
 negative_row s needed =
     let some = Any-from_list_any (λ row. is_negative row.rhs) s.rows needed in

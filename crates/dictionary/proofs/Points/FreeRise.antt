@@ -30,7 +30,7 @@ abbrev pub along : ℕ → Fraction → Dictionary → Point
 along j t d v = cond (v == slice_index d.nonbasic j) t (row_along j t (slice_index_or d.rows (place_of d.basic v) []))
 
 -- what holds of t and of what each row says, also where there is none
-along-all : (P : Fraction → Type 0) (j : ℕ) (t : Fraction) (d : Dictionary) (v : ℕ) → P t → P (row_along j t []) → All (λ row. P (row_along j t row)) d.rows → P (along j t d v)
+pub along-all : (P : Fraction → Type 0) (j : ℕ) (t : Fraction) (d : Dictionary) (v : ℕ) → P t → P (row_along j t []) → All (λ row. P (row_along j t row)) d.rows → P (along j t d v)
 along-all P j t d v own none all =
     of_cond (v == slice_index d.nonbasic j)
     (⊎_elim

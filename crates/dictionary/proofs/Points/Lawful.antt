@@ -74,7 +74,7 @@ length-other j n f solved entries within same_solved same =
     (length-less_products f (take j entries) (take j solved) (length-take-le j solved (omega arith) ∙ sym (length-take-le j entries (omega arith))) ∙ length-take-le j entries (omega arith))
     (length-less_products f (drop (suc j) entries) (drop (suc j) solved) (length-drop (suc j) solved ∙ ap (λ m. m - suc j) (same_solved ∙ sym same) ∙ sym (length-drop (suc j) entries)) ∙ length-drop (suc j) entries ∙ ap (λ m. m - suc j) same)
 
-length-solved : (j n : ℕ) (q : Fraction) (entries : List Fraction) → j < n → length entries ≡ n → length (solved_entries j q entries) ≡ n
+pub length-solved : (j n : ℕ) (q : Fraction) (entries : List Fraction) → j < n → length entries ≡ n → length (solved_entries j q entries) ≡ n
 length-solved j n q entries within same =
     replaced_length j (map (λ a. a ⊗ q) (take j entries)) (map (λ a. a ⊗ q) (drop (suc j) entries)) (one_value ⊗ q) n within
     (length-map (take j entries) (λ a. a ⊗ q) ∙ length-take-le j entries (omega arith))
@@ -82,7 +82,7 @@ length-solved j n q entries within same =
 
 -- ---- lowest terms
 
-apart_of-minus_product : (f b : Fraction) → IsInLowestTerms (minus (f ⊗ b))
+pub apart_of-minus_product : (f b : Fraction) → IsInLowestTerms (minus (f ⊗ b))
 apart_of-minus_product f b = subst IsInLowestTerms (minus-product f b) (apart_of-product (minus f) b)
 
 All-less_products : (f : Fraction) (coefs others : List Fraction) → All IsInLowestTerms (less_products f coefs others)
@@ -102,7 +102,7 @@ All-scaled : (q : Fraction) (coefs : List Fraction) → All IsInLowestTerms (map
 All-scaled q [] = All-nil IsInLowestTerms
 All-scaled q (a ∷ coefs) = All-cons IsInLowestTerms (a ⊗ q) (map (λ b. b ⊗ q) coefs) (apart_of-product a q) (All-scaled q coefs)
 
-All-solved : (j : ℕ) (q : Fraction) (entries : List Fraction) → All IsInLowestTerms (solved_entries j q entries)
+pub All-solved : (j : ℕ) (q : Fraction) (entries : List Fraction) → All IsInLowestTerms (solved_entries j q entries)
 All-solved j q entries =
     All-replaced (map (λ a. a ⊗ q) (take j entries)) (map (λ a. a ⊗ q) (drop (suc j) entries)) (one_value ⊗ q) (All-scaled q (take j entries)) (apart_of-product one_value q) (All-scaled q (drop (suc j) entries))
 

@@ -54,7 +54,7 @@ other_rows i j k d e x lawful h is_true within other =
     ∙ told-other x j (slice_index d.basic i) d.nonbasic h.solved (slice_index_or d.rows k []) h.column_within
     (wide_entries (length d.nonbasic) h.solved h.known.wide) (wide_entries (length d.nonbasic) (slice_index_or d.rows k []) (row_wide d k lawful within)) is_true
 
-true_turned : (i j : ℕ) (d e : Dictionary) (x : Point) → IsLawful d → ((v : ℕ) → IsInLowestTerms (x v)) → (h : Turns i j d e) → AreTrue x d → AreTrue x (turned i j h.solved d)
+pub true_turned : (i j : ℕ) (d e : Dictionary) (x : Point) → IsLawful d → ((v : ℕ) → IsInLowestTerms (x v)) → (h : Turns i j d e) → AreTrue x d → AreTrue x (turned i j h.solved d)
 true_turned i j d e x lawful low h all k within =
     let v = slice_index d.nonbasic j in
     let vs = slice_set d.nonbasic j (slice_index d.basic i) in
@@ -66,7 +66,7 @@ true_turned i j d e x lawful low h all k within =
     (λ other. ap x (get_or-set_other d.basic i k v 0 other) ∙ all k long ∙ sym (other_rows i j k d e x lawful h solved long other))
     (cases_eq k i)
 
-true_before : (i j : ℕ) (d e : Dictionary) (x : Point) → IsLawful d → ((v : ℕ) → IsInLowestTerms (x v)) → (h : Turns i j d e) → AreTrue x (turned i j h.solved d) → AreTrue x d
+pub true_before : (i j : ℕ) (d e : Dictionary) (x : Point) → IsLawful d → ((v : ℕ) → IsInLowestTerms (x v)) → (h : Turns i j d e) → AreTrue x (turned i j h.solved d) → AreTrue x d
 true_before i j d e x lawful low h all k within =
     let v = slice_index d.nonbasic j in
     let vs = slice_set d.nonbasic j (slice_index d.basic i) in
@@ -90,7 +90,7 @@ solutions_kept r c d e x lawful h =
     )
 
 -- an objective of d says of a solution what it says after the pivot
-objective_turned : (i j : ℕ) (d e : Dictionary) (x : Point) (row : List Fraction) → (h : Turns i j d e) → Solves d x → IsWide (length d.nonbasic) row
+pub objective_turned : (i j : ℕ) (d e : Dictionary) (x : Point) (row : List Fraction) → (h : Turns i j d e) → Solves d x → IsWide (length d.nonbasic) row
     → total x (slice_set d.nonbasic j (slice_index d.basic i)) (other_objective j h.solved row) ≡ total x d.nonbasic row
 objective_turned i j d e x row h s wide =
     total-other x j (slice_index d.basic i) d.nonbasic h.solved row h.column_within (wide_entries (length d.nonbasic) h.solved h.known.wide) (wide_entries (length d.nonbasic) row wide)
