@@ -1,13 +1,12 @@
 -- Where each integer variable has both bounds, each split divides the product of their ranges.
 use Rattle.std.proofs.Common.{◌≡◌, refl, sym, subst, ℕ, suc, ◌+◌, ◌<◌, ◌==◌, ℤ, pos, ◌+ℤ◌, true, true≢false, IsTrue, ◌&&◌, not, List, [], ◌∷◌, ◌++◌, Option, is_some, Some, None, IfSome, Ok, All, if◌then◌else◌, arith}
-use Rattle.std.specs.Prelude.{unsigned_abs}
-use Rattle.std.specs.Int.{IsGcd}
 use Rattle.std.specs.List.{AllZip}
 use Rattle.std.proofs.lemmas.Bool.{and_parts, cond_both}
 use Rattle.std.proofs.lemmas.List.Elements.{All-cons, All-head, All-nil, All-tail}
 use Rattle.frac128.specs.Checked.{◌>>=◌}
-use Rattle.frac128.specs.Fraction.{Fraction, den, negation}
+use Rattle.frac128.specs.Fraction.{Fraction, negation}
 use Rattle.frac128.proofs.Field.{apart_of-sum}
+use Rattle.frac128.specs.Lowest.{IsInLowestTerms}
 use Rattle.model_data.specs.Size.{is_integer}
 use Rattle.model_data.specs.declared.model.Model.{Model}
 use Rattle.model_data.specs.declared.model.Var.{Var}
@@ -31,24 +30,20 @@ use Rattle.search_laws.proofs.Splits.{next_is}
 
 -- ---- values that are carried back
 
-IsLow : Fraction → Type 0
-IsLow x = IsGcd (unsigned_abs x.num) (den x) 1
+low_value : (shape : Shape) (x y z : Fraction) → point_value shape x y ≡ Ok z → IsInLowestTerms z
+low_value (shifted lower upper) x y z h = subst IsInLowestTerms (sym (sum_is lower x z h)) (apart_of-sum lower x)
+low_value (mirrored upper) x y z h = subst IsInLowestTerms (sym (difference_is upper x z h)) (apart_of-sum upper (negation x))
+low_value (free) x y z h = subst IsInLowestTerms (sym (difference_is x y z h)) (apart_of-sum x (negation y))
 
-low_value : (shape : Shape) (x y z : Fraction) → point_value shape x y ≡ Ok z → IsLow z
-unfolding IsLow
-low_value (shifted lower upper) x y z h = subst IsLow (sym (sum_is lower x z h)) (apart_of-sum lower x)
-low_value (mirrored upper) x y z h = subst IsLow (sym (difference_is upper x z h)) (apart_of-sum upper (negation x))
-low_value (free) x y z h = subst IsLow (sym (difference_is x y z h)) (apart_of-sum x (negation y))
-
-low_values : (column : ℕ) (shapes : List Shape) (xs ys : List Fraction) → values_from point_value column shapes xs ≡ Ok ys → All IsLow ys
-low_values column [] xs ys h = subst (All IsLow) (same_ok [] ys h) (All-nil IsLow)
+low_values : (column : ℕ) (shapes : List Shape) (xs ys : List Fraction) → values_from point_value column shapes xs ≡ Ok ys → All IsInLowestTerms ys
+low_values column [] xs ys h = subst (All IsInLowestTerms) (same_ok [] ys h) (All-nil IsInLowestTerms)
 low_values column (shape ∷ shapes) xs ys h =
     let own = through (point_value shape (value_at xs column) (value_at xs (suc column))) (λ own. values_from point_value (column + width shape) shapes xs >>= (λ others. Ok (own ∷ others))) ys h in
     let others = through (values_from point_value (column + width shape) shapes xs) (λ others. Ok (own.value ∷ others)) ys own.rest in
-    subst (All IsLow) (same_ok (own.value ∷ others.value) ys others.rest)
-    (All-cons IsLow own.value others.value (low_value shape (value_at xs column) (value_at xs (suc column)) own.value own.first) (low_values (column + width shape) shapes xs others.value others.first))
+    subst (All IsInLowestTerms) (same_ok (own.value ∷ others.value) ys others.rest)
+    (All-cons IsInLowestTerms own.value others.value (low_value shape (value_at xs column) (value_at xs (suc column)) own.value own.first) (low_values (column + width shape) shapes xs others.value others.first))
 
-low_point : (shapes : List Shape) (xs ys : List Fraction) → point_back shapes xs ≡ Ok ys → All IsLow ys
+low_point : (shapes : List Shape) (xs ys : List Fraction) → point_back shapes xs ≡ Ok ys → All IsInLowestTerms ys
 unfolding point_back
 low_point shapes xs ys h = low_values 0 shapes xs ys h
 
@@ -89,7 +84,7 @@ record Found (first : ℕ) (vars : List Var) (cuts : List Cut) (at : Placed) : T
   behind : ℕ
   is_place : at.place ≡ first + behind
   inside : InsideAt first vars cuts behind at.value
-  low : IsLow at.value
+  low : IsInLowestTerms at.value
   fraction : IsTrue (not (is_whole at.value))
 
 none_some : (v : Placed) → ◌≡◌ {A = Option Placed} None (Some v) → ⊥
@@ -118,7 +113,7 @@ inside_bounds v b n d x some same within integer there =
     }
 
 found : (first : ℕ) (vars : List Var) (cuts : List Cut) (X : List ℤ) (d : ℕ) (xs : List Fraction) (at : Placed) → 0 < d → first_fractional first vars xs ≡ Some at
-    → AllZip (λ b n. IsWithin b (quotient n d)) (bounds_from first vars cuts) X → HasValues X d xs → All IsLow xs → All Closed vars → Found first vars cuts at
+    → AllZip (λ b n. IsWithin b (quotient n d)) (bounds_from first vars cuts) X → HasValues X d xs → All IsInLowestTerms xs → All Closed vars → Found first vars cuts at
 found first [] cuts X d xs at some is each same low closed = absurd (none_some at is)
 found first (v ∷ vars) cuts X d [] at some is each same low closed = absurd (none_some at is)
 found first (v ∷ vars) cuts [] d (x ∷ xs) at some is each same low closed = absurd same
@@ -133,11 +128,11 @@ found first (v ∷ vars) cuts (n ∷ X) d (x ∷ xs) at some is each same low cl
       behind = 0;
       is_place = omega arith;
       inside = inside_bounds v b n d x some same.0 each.0 parts.0 (stay first (own_bounds v) cuts record { lower = both_there.0; upper = both_there.1 });
-      low = All-head IsLow x xs low;
+      low = All-head IsInLowestTerms x xs low;
       fraction = parts.1;
     })
     (λ _ h.
-    let rest = found (suc first) vars cuts X d xs at some h each.1 same.1 (All-tail IsLow x xs low) (All-tail Closed v vars closed) in
+    let rest = found (suc first) vars cuts X d xs at some h each.1 same.1 (All-tail IsInLowestTerms x xs low) (All-tail Closed v vars closed) in
     let place = rest.is_place in
     record { behind = suc rest.behind; is_place = omega (arith, place); inside = rest.inside; low = rest.low; fraction = rest.fraction })
     is
@@ -145,7 +140,6 @@ found first (v ∷ vars) cuts (n ∷ X) d (x ∷ xs) at some is each same low cl
 -- ---- each split
 
 pub divided : (m : Model) → RelaxationLaw m → IsClosed m → IsDivided m (splits_within m)
-unfolding IsLow
 divided m law closed cuts d xs at next reached comes is_point is_first sum =
     let best = law.point cuts d xs reached comes is_point in
     let f = found 0 m.vars cuts best.X best.d xs at best.best.feasible.above_zero is_first

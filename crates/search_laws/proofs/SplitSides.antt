@@ -1,13 +1,14 @@
 -- A split loses no point, and leaves its fractional value in neither part.
 use Rattle.std.proofs.Common.{◌≡◌, refl, sym, ◌∙◌, ap, subst, ℕ, suc, ◌+◌, ◌*◌, ◌/◌, ◌%◌, ◌<◌, ◌≤◌, ℤ, pos, negsuc, neg_ℤ, ◌+ℤ◌, ◌*ℤ◌, true≢false, not, IsTrue, ◌⊎◌, List, [], ◌∷◌, ◌++◌, Ok, arith}
 use Rattle.std.specs.Prelude.{◌≤ℤ◌, ◌<ℤ◌, unsigned_abs}
-use Rattle.std.specs.Int.{IsGcd, ◌∣◌}
+use Rattle.std.specs.Int.{◌∣◌}
 use Rattle.std.proofs.Math.Nat.{dvd-mul_left, eq-one_of_dvd-one}
 use Rattle.std.proofs.lemmas.Bool.{eq-eqb}
 use Rattle.std.proofs.lemmas.Int.{by_lt_z, ints}
 use Rattle.std.proofs.lemmas.Nat.Gcd.{dvd_refl}
 use Rattle.frac128.specs.Checked.{checked_sum}
 use Rattle.frac128.specs.Fraction.{Fraction, den, one_value}
+use Rattle.frac128.specs.Lowest.{IsInLowestTerms}
 use Rattle.frac128.specs.Order.{IsFloor}
 use Rattle.frac128.proofs.Integers.{neg-mul, size-mul_pos}
 use Rattle.model_data.specs.declared.model.Model.{Model}
@@ -71,7 +72,7 @@ pub floor_is : (x : Fraction) → IsFloor x (floor_of x)
 floor_is x = let parts = floor_parts x.num (den x) (omega arith) in record { at_most = parts.0; next_above = parts.1 }
 
 -- A value in lowest terms that isn't whole is above its floor.
-pub above_floor : (x : Fraction) → IsGcd (unsigned_abs x.num) (den x) 1 → (x.below ≡ 0 → ⊥) → (floor_of x *ℤ pos (den x)) <ℤ x.num
+pub above_floor : (x : Fraction) → IsInLowestTerms x → (x.below ≡ 0 → ⊥) → (floor_of x *ℤ pos (den x)) <ℤ x.num
 above_floor x apart fraction =
     by_lt_z (floor_of x *ℤ pos (den x)) x.num (λ less. less)
     (λ most. absurd (fraction (one_below (den x) x.below refl (eq-one_of_dvd-one (apart.2 (den x) (divides (between most)) (dvd_refl (den x)))))))
@@ -86,7 +87,7 @@ above_floor x apart fraction =
     one_below n b e h = omega (arith, e, h)
 
 -- It is in neither part of its split.
-pub left_out : (x : Fraction) (next : Fraction) → IsGcd (unsigned_abs x.num) (den x) 1 → IsTrue (not (is_whole x)) → checked_sum (whole (floor_of x)) one_value ≡ Ok next
+pub left_out : (x : Fraction) (next : Fraction) → IsInLowestTerms x → IsTrue (not (is_whole x)) → checked_sum (whole (floor_of x)) one_value ≡ Ok next
     → Below (ratio (whole (floor_of x))) (ratio x) × Below (ratio x) (ratio (whole next.num))
 left_out x next apart fraction sum = (
   subst (λ z. (floor_of x *ℤ pos (den x)) <ℤ z) (sym (times_one x.num)) (above_floor x apart (λ e. true≢false (sym fraction ∙ ap not (eq-eqb x.below 0 e)))),

@@ -1,8 +1,8 @@
 //! Splits.
-ghost use Rattle.std.specs.Prelude.{◌≡◌, ◌≢◌, ◌*◌, ◌≤◌, ◌⊎◌, ℕ, ℤ, suc, not, unsigned_abs, IsTrue, List, [], ◌∷◌, ◌++◌, None, Some, Ok};
-ghost use Rattle.std.specs.Int.{IsGcd};
+ghost use Rattle.std.specs.Prelude.{◌≡◌, ◌≢◌, ◌*◌, ◌≤◌, ◌⊎◌, ℕ, ℤ, suc, not, IsTrue, List, [], ◌∷◌, ◌++◌, Ok};
 ghost use Rattle.frac128.specs.Checked.{checked_sum};
-ghost use Rattle.frac128.specs.Fraction.{Fraction, den, one_value};
+ghost use Rattle.frac128.specs.Fraction.{Fraction, one_value};
+ghost use Rattle.frac128.specs.Lowest.{IsInLowestTerms};
 ghost use Rattle.frac128.specs.Order.{IsFloor};
 ghost use Rattle.model_data.specs.declared.model.Model.{Model};
 ghost use Rattle.model_data.specs.declared.params.Params.{Params};
@@ -11,11 +11,11 @@ ghost use Rattle.solve_defs.specs.Cases.{IsCasePoint};
 ghost use Rattle.solve_defs.specs.Certificates.{is_integer_number};
 ghost use Rattle.solve_defs.specs.Plain.{plain_cut};
 ghost use Rattle.solve_defs.specs.Points.{Below, ratio};
+ghost use Rattle.solve_defs.specs.Relaxations.{RelaxationLaw};
 ghost use Rattle.solve_defs.specs.Values.{floor_of, is_whole, whole};
 ghost use Rattle.solve_defs.specs.declared.cut.Cut.{Cut};
 ghost use Rattle.solve_defs.specs.declared.status.TheConstants.{ITERATION_LIMIT};
 ghost use Rattle.search_laws.specs.Counts.{CountsNodes, IsBrief, IsClosed, IsDivided, nodes_below, splits_within};
-ghost use Rattle.solve_defs.specs.Relaxations.{RelaxationLaw};
 
 /// A split on an integer variable loses no point: each one of the node is in the lower part or in the upper one.
 pub fn a_split_loses_no_point()
@@ -28,7 +28,7 @@ pub fn a_split_loses_no_point()
 /// A split's number is the greatest whole number that is at most the fractional value, which is in neither part.
 pub fn a_split_is_at_the_floor()
     ensures floor { (x : Fraction) → IsFloor x (floor_of x) }
-    ensures left_out { (x next : Fraction) → IsGcd (unsigned_abs x.num) (den x) 1 → IsTrue (not (is_whole x)) → checked_sum (whole (floor_of x)) one_value ≡ Ok next
+    ensures left_out { (x next : Fraction) → IsInLowestTerms x → IsTrue (not (is_whole x)) → checked_sum (whole (floor_of x)) one_value ≡ Ok next
         → Below (ratio (whole (floor_of x))) (ratio x) × Below (ratio x) (ratio (whole next.num)) }
 {}
 
