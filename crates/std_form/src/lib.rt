@@ -15,6 +15,6 @@ mod shape;
 mod standard;
 
 pub use fault::StdFault;
-pub use point::point_back;
+pub use point::{point_back, ray_back};
 pub use solve_defs::Cut;
 pub use standard::to_std;
