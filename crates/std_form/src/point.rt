@@ -67,12 +67,7 @@ pub fn ray_back(
 }
 
 impl Columns {
-    fn values(
-        &self,
-        alloc: Global,
-        way: Way,
-        xs: &[Frac],
-    ) -> Result<Vec<Frac>, OrMemory<StdFault>>
+    fn values(&self, alloc: Global, way: Way, xs: &[Frac]) -> Result<Vec<Frac>, OrMemory<StdFault>>
         requires { length xs.now ≡ column_count self.now }
         ensures { Meets result (λ values. values.items) (values_from (value_by way) 0 self.now xs.now) }
     {
