@@ -5,4 +5,5 @@ pub mod Exits
 pub mod Forms
 pub mod Places
 pub mod Steps
+pub mod Weighed
 pub mod Whole

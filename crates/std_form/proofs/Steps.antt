@@ -38,34 +38,38 @@ behind-refused done (Err f) others e refused = refused
 
 -- ---- the values of the variables from one place on
 
-abbrev pub values_left : List defs.Shape → List Fraction → ℕ → Result (List Fraction) Wide
-values_left shapes xs place = defs.values_from defs.point_value (defs.column_count (take place shapes)) (drop place shapes) xs
+-- what makes a variable's value of those of its columns
+abbrev pub Making : Type 0
+Making = defs.Shape → Fraction → Fraction → Result Fraction Wide
+
+abbrev pub values_left : Making → List defs.Shape → List Fraction → ℕ → Result (List Fraction) Wide
+values_left made shapes xs place = defs.values_from made (defs.column_count (take place shapes)) (drop place shapes) xs
 
 -- a variable's value, where its columns begin here
-abbrev value_from : List Fraction → defs.Shape → ℕ → Result Fraction Wide
-value_from xs shape column = defs.point_value shape (value_at xs column) (value_at xs (suc column))
+abbrev pub value_from : Making → List Fraction → defs.Shape → ℕ → Result Fraction Wide
+value_from made xs shape column = made shape (value_at xs column) (value_at xs (suc column))
 
-abbrev value_then : Result Fraction Wide → Result (List Fraction) Wide → Result (List Fraction) Wide
+abbrev pub value_then : Result Fraction Wide → Result (List Fraction) Wide → Result (List Fraction) Wide
 value_then own others = ◌>>=◌ own (λ x. ◌>>=◌ others (λ rest. Ok (x ∷ rest)))
 
-behind-value : (done : List Fraction) (own : Result Fraction Wide) (others : Result (List Fraction) Wide)
+pub behind-value : (done : List Fraction) (own : Result Fraction Wide) (others : Result (List Fraction) Wide)
     → behind done (value_then own others) ≡ ◌>>=◌ own (λ x. behind (done ++ x ∷ []) others)
 behind-value done (Ok x) (Ok rest) = ap Ok (sym (append_assoc done (x ∷ []) rest))
 behind-value done (Ok x) (Err e) = refl
 behind-value done (Err e) others = refl
 
-pub point-step : (shapes : List defs.Shape) (xs done : List Fraction) (place : ℕ) (p : Placed) → Stands shapes place p
-    → behind done (values_left shapes xs place)
-    ≡ ◌>>=◌ (value_from xs (shape_of p.shape) p.column) (λ x. behind (done ++ x ∷ []) (values_left shapes xs (place + 1)))
-point-step shapes xs done place p here =
+pub values-step : (made : defs.Shape → Fraction → Fraction → Result Fraction Wide) (shapes : List defs.Shape) (xs done : List Fraction) (place : ℕ) (p : Placed) → Stands shapes place p
+    → behind done (values_left made shapes xs place)
+    ≡ ◌>>=◌ (made (shape_of p.shape) (value_at xs p.column) (value_at xs (suc p.column))) (λ x. behind (done ++ x ∷ []) (values_left made shapes xs (place + 1)))
+values-step made shapes xs done place p here =
     let column = defs.column_count (take place shapes) in
     let shape = get_or shapes place defs.free in
     let ahead = drop (place + 1) shapes in
-    ap (λ rest. behind done (defs.values_from defs.point_value column rest xs)) (drop_more shapes place defs.free here.within)
-    ∙ ap (λ n. behind done (value_then (value_from xs shape column) (defs.values_from defs.point_value n ahead xs)))
+    ap (λ rest. behind done (defs.values_from made column rest xs)) (drop_more shapes place defs.free here.within)
+    ∙ ap (λ n. behind done (value_then (value_from made xs shape column) (defs.values_from made n ahead xs)))
     (sym (sum_by_more defs.width shapes place defs.free here.within))
-    ∙ behind-value done (value_from xs shape column) (values_left shapes xs (place + 1))
-    ∙ ap₂ (λ (s : defs.Shape) (n : ℕ). ◌>>=◌ (value_from xs s n) (λ x. behind (done ++ x ∷ []) (values_left shapes xs (place + 1))))
+    ∙ behind-value done (value_from made xs shape column) (values_left made shapes xs (place + 1))
+    ∙ ap₂ (λ (s : defs.Shape) (n : ℕ). ◌>>=◌ (value_from made xs s n) (λ x. behind (done ++ x ∷ []) (values_left made shapes xs (place + 1))))
     (here.shape defs.free) (sym here.column)
 
 -- ---- the rows of the variables from one place on

@@ -13,8 +13,10 @@ mod point;
 mod rows;
 mod shape;
 mod standard;
+mod weights;
 
 pub use fault::StdFault;
-pub use point::point_back;
+pub use point::{point_back, ray_back};
 pub use solve_defs::Cut;
 pub use standard::to_std;
+pub use weights::dual_back;

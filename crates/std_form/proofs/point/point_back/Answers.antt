@@ -10,12 +10,12 @@ pub returns-clause-ok : goal.returns-clause-ok
 unfolding point_back
 returns-clause-ok c =
     let are : c.in_ok-columns.columns ≡ shapes_of c.args.m.now c.args.cuts.now.items = c.in_ok-columns.ensures ∙ ap (shapes_of c.args.m.now) c.as_slice.ensures.value in
-    told_ok _ _ _ (subst (λ (wanted : Result (List Fraction) Wide). Meets c.point.result (λ point. point.items) wanted)
-    (ap₂ (values_from point_value 0) are c.as_slice-2.ensures.value) c.point.ensures)
+    told_ok _ _ _ (subst (λ (wanted : Result (List Fraction) Wide). Meets c.values.result (λ values. values.items) wanted)
+    (ap₂ (values_from point_value 0) are c.as_slice-2.ensures.value) c.values.ensures)
 
 pub returns-clause-fault : goal.returns-clause-fault
 unfolding point_back
 returns-clause-fault c =
     let are : c.in_ok-columns.columns ≡ shapes_of c.args.m.now c.args.cuts.now.items = c.in_ok-columns.ensures ∙ ap (shapes_of c.args.m.now) c.as_slice.ensures.value in
-    told_fault _ _ _ (subst (λ (wanted : Result (List Fraction) Wide). Meets c.point.result (λ point. point.items) wanted)
-    (ap₂ (values_from point_value 0) are c.as_slice-2.ensures.value) c.point.ensures)
+    told_fault _ _ _ (subst (λ (wanted : Result (List Fraction) Wide). Meets c.values.result (λ values. values.items) wanted)
+    (ap₂ (values_from point_value 0) are c.as_slice-2.ensures.value) c.values.ensures)
