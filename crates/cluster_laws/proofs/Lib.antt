@@ -18,6 +18,7 @@ pub mod OwnDeeds
 pub mod OwnEffects
 pub mod OwnLooks
 pub mod OwnPlaces
+pub mod OwnRoom
 pub mod Pigeons
 pub mod Records
 pub mod Results
