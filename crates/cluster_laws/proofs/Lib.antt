@@ -9,6 +9,7 @@ pub mod Faults
 pub mod Histories
 pub mod HistoryLooks
 pub mod Journals
+pub mod Least
 pub mod Listings
 pub mod Lists
 pub mod Lives
@@ -41,3 +42,4 @@ pub mod Uses
 pub mod Waiters
 pub mod Weights
 mod WorkedBounds
+mod WorkedFaults

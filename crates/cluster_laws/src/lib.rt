@@ -1,7 +1,6 @@
 //! What holds of a cluster: laws of the definitions that stand in `cluster_defs`, as functions without code.
 //!
-//! A program that follows the definitions needs none of them, so that what it stands on is short; who wants to know what the
-//! definitions come to reads here. `specs/Places.antt` says of each place that is given what it has to be, apart from how it is
+//! What a program does is said by the definitions, and that is what it stands on; what they come to is said here. `specs/Places.antt` says of each place that is given what it has to be, apart from how it is
 //! found, and `specs/Sound.antt` and `specs/Seated.antt` how a batch and a seat stand in every history.
 //!
 //! - placing: [`placing_repeats_the_rule`], [`each_place_is_the_best`];
