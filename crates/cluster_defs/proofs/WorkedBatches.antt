@@ -10,6 +10,7 @@ use Rattle.cluster_defs.specs.Told.{told}
 use Rattle.table_defs.specs.Table.{after, no_rows, submitted, aborted, completed}
 use Rattle.cluster_defs.specs.Asks as asks
 use Rattle.cluster_defs.specs.Deeds.{Asked, Back, Disk, Finished, Kept, Late}
+use Rattle.cluster_defs.specs.Ends.{end_of}
 use Rattle.cluster_defs.specs.Entries as answers
 use Rattle.cluster_defs.specs.Looks.{cut}
 use Rattle.cluster_defs.specs.Opened.{mounted, opened}
@@ -89,6 +90,10 @@ bob_alone = refl
 opened_again : place (mounted (site 1 1 0) (after (is.Create (batch ada 1) 1 body ∷ is.Create (batch bob 1) 1 body ∷ is.Abort (batch ada 1) 1 ∷ is.Retry (batch ada 1) 2 ∷ []) no_rows) 428) ≡ work (batch ada 1) 2 1 ∷ []
 unfolding is_owner is_id is_seat is_node
 opened_again = refl
+
+-- It begins at the end of these four records, of 105 bytes each.
+opened_at : end_of (site 1 1 0) (is.Create (batch ada 1) 1 body ∷ is.Create (batch bob 1) 1 body ∷ is.Abort (batch ada 1) 1 ∷ is.Retry (batch ada 1) 2 ∷ []) ≡ 428
+opened_at = refl
 
 -- ---- limits
 

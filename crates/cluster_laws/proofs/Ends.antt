@@ -26,7 +26,7 @@ use Rattle.cluster_laws.proofs.SoundSteps.{step_is_good}
 pub end_push : (k : Site) (rs : List BatchRecord) (r : BatchRecord) → end_of k (rs ++ r ∷ []) ≡ end_of k rs + 5 + k.record_bytes r
 end_push k rs r = let e = sum_by_push (bytes_of k) rs r in omega (arith, e)
 
-kept_end : (k : Site) (c d : Cluster) (r : BatchRecord) (before now : List BatchRecord) → d.journal ≡ c.journal + 5 + k.record_bytes r → c.journal ≡ end_of k before → now ≡ before ++ r ∷ [] → d.journal ≡ end_of k now
+pub kept_end : (k : Site) (c d : Cluster) (r : BatchRecord) (before now : List BatchRecord) → d.journal ≡ c.journal + 5 + k.record_bytes r → c.journal ≡ end_of k before → now ≡ before ++ r ∷ [] → d.journal ≡ end_of k now
 kept_end k c d r before now rises same is = let e : end_of k now ≡ end_of k before + 5 + k.record_bytes r = ap (end_of k) is ∙ end_push k before r in omega (arith, e, rises, same)
 
 event_end : (k : Site) (event : Option Event) (c d : Cluster) (j : Journal) → Tells k event c d → c.journal ≡ end_of k j.records → (more : List Event) (last : Journal) → Brings (option_to_list event ++ more) j last

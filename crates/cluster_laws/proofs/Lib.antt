@@ -9,6 +9,7 @@ pub mod Faults
 pub mod Histories
 pub mod HistoryLooks
 pub mod Journals
+pub mod Least
 pub mod Listings
 pub mod Lists
 pub mod Lives
@@ -18,6 +19,7 @@ pub mod OwnDeeds
 pub mod OwnEffects
 pub mod OwnLooks
 pub mod OwnPlaces
+pub mod OwnRoom
 pub mod Pigeons
 pub mod Records
 pub mod Results
@@ -40,3 +42,4 @@ pub mod Uses
 pub mod Waiters
 pub mod Weights
 mod WorkedBounds
+mod WorkedFaults

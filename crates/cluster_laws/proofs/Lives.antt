@@ -44,7 +44,7 @@ back_journal (g ∷ gs) c = back_journal gs (with_returned c g.id g.attempt)
 
 -- ---- each cluster of a history is good
 
-good_from : (k : Site) (H : List Entry) (N : List GivenBack) (n : ℕ) (c : Cluster) → IsSound c → IsSound (cluster_from k n c N H)
+pub good_from : (k : Site) (H : List Entry) (N : List GivenBack) (n : ℕ) (c : Cluster) → IsSound c → IsSound (cluster_from k n c N H)
 good_from k [] N n c good = back_good (back_at n N) c good
 good_from k (e ∷ es) N n c good = good_from k es N (suc n) _ (step_is_good k (given_back (back_at n N) c) e.deed (faults_of e) (back_good (back_at n N) c good))
 
@@ -107,7 +107,7 @@ stop_tells k (Some (was_failed r)) c d tells = (refl, refl)
 stop_tells k (Some was_not_opened) c d tells = absurd tells
 stop_tells k (Some was_opened) c d tells = absurd tells
 
-stopped_tells : (k : Site) (c : Cluster) (deed : Option Deed) → IsSound c → Tells k (stopped_in k c deed) c c
+pub stopped_tells : (k : Site) (c : Cluster) (deed : Option Deed) → IsSound c → Tells k (stopped_in k c deed) c c
 stopped_tells k c None good = (refl, refl)
 stopped_tells k c (Some deed) good = stop_tells k (event_in c deed (step k c deed well).reply) c (step k c deed well).next (step_tells k c deed well good)
 

@@ -1,9 +1,9 @@
 -- What an entry tells of the journal: its record was taken, and table and end are as with it, or as before.
 use Rattle.std.proofs.Common.{◌≡◌, refl, sym, ap, ◌∙◌, subst, ℕ, ◌==◌, Bool, true, false, List, [], ◌∷◌, Option, Some, None, arith}
 use Rattle.std.specs.Prelude.{nat_le, ⊤}
-use Rattle.base_names.specs.declared.refusal.OwnerLimit.TheVariants.{Commands, Numbers}
+use Rattle.base_names.specs.declared.refusal.OwnerLimit.TheVariants.{Bytes, Commands, Numbers}
 use Rattle.base_names.specs.declared.refusal.Refusal.{Refusal}
-use Rattle.base_names.specs.declared.refusal.Refusal.TheVariants.{BATCHSTATE, DISK, NODE, NOJOB, NONODE, OWNERFULL, RANGE, ROLE, STATE}
+use Rattle.base_names.specs.declared.refusal.Refusal.TheVariants.{BATCHSTATE, DISK, JOURNALFULL, NODE, NOJOB, NONODE, OWNERFULL, RANGE, ROLE, STATE}
 use Rattle.base_names.specs.declared.id.BatchId.{BatchId}
 use Rattle.base_names.specs.declared.node.Placed.{Placed}
 use Rattle.base_names.specs.declared.seat.Seat.{Seat}
@@ -96,12 +96,26 @@ other_numbers : (t : Table) (seat : Seat) (ask : Ask) → IsOther (numbers_refus
 other_numbers t seat (asks.Create body) = other_unless _ (OWNERFULL Numbers) refl
 other_numbers t seat ask = tt
 
+other_bytes : (k : Site) (t : Table) (seat : Seat) (ask : Ask) → IsOther (bytes_refusal k t seat ask)
+other_bytes k t seat (asks.Create body) = other_unless _ (OWNERFULL Bytes) refl
+other_bytes k t seat ask = tt
+
+other_journal : (k : Site) (end : ℕ) (t : Table) (r : Option BatchRecord) → IsOther (journal_refusal k end t r)
+other_journal k end t None = tt
+other_journal k end t (Some (is.Create id n body)) = other_unless _ (JOURNALFULL _ _) refl
+other_journal k end t (Some (is.Abort id n)) = tt
+other_journal k end t (Some (is.Discard id)) = other_unless _ (JOURNALFULL _ _) refl
+other_journal k end t (Some (is.Retry id n)) = other_unless _ (JOURNALFULL _ _) refl
+other_journal k end t (Some (is.Finish id n result)) = tt
+other_journal k end t (Some (is.Lost items)) = tt
+other_journal k end t (Some (is.Next id)) = other_unless _ (JOURNALFULL _ _) refl
+
 -- a refusal of the disk is none of those before it
 past : (x rest : Option Refusal) (r : Refusal) → IsOther x → is_disk r ≡ true → or_else x rest ≡ Some r → (x ≡ None) × (rest ≡ Some r)
 past None rest r other disk h = (refl, h)
 past (Some q) rest r other disk h = let e : q ≡ r = cc in let k : is_disk r ≡ false = sym (ap is_disk e) ∙ other in absurd (grind (arith, k, disk))
 
-pub disk_is_last : (k : Site) (c : Cluster) (seat : Seat) (ask : Ask) (f : Faults) (r : Refusal) → is_disk r ≡ true → ask_refusal k c seat ask f ≡ Some r → (batch_refusal c.table seat ask ≡ None) × (numbers_refusal c.table seat ask ≡ None)
+pub disk_is_last : (k : Site) (c : Cluster) (seat : Seat) (ask : Ask) (f : Faults) (r : Refusal) → is_disk r ≡ true → ask_refusal k c seat ask f ≡ Some r → (batch_refusal c.table seat ask ≡ None) × (numbers_refusal c.table seat ask ≡ None) × (journal_refusal k c.journal c.table (record_of c.table c.placed seat ask) ≡ None)
 disk_is_last k c seat ask f r disk h =
     let a = past (role_refusal seat ask) _ r (other_unless _ ROLE refl) disk h in
     let b = past (node_refusal c.nodes ask) _ r (other_node c.nodes ask) disk a.1 in
@@ -111,7 +125,9 @@ disk_is_last k c seat ask f r disk h =
     let i = past (marked_refusal c.jobs ask) _ r (other_marked c.jobs ask) disk g.1 in
     let j = past (alive_refusal c.nodes ask) _ r (other_alive c.nodes ask) disk i.1 in
     let l = past (batch_refusal c.table seat ask) _ r (other_batch c.table seat ask) disk j.1 in
-    (l.0, (past (numbers_refusal c.table seat ask) _ r (other_numbers c.table seat ask) disk l.1).0)
+    let m = past (numbers_refusal c.table seat ask) _ r (other_numbers c.table seat ask) disk l.1 in
+    let n = past (bytes_refusal k c.table seat ask) _ r (other_bytes k c.table seat ask) disk m.1 in
+    (l.0, m.0, (past (journal_refusal k c.journal c.table (record_of c.table c.placed seat ask)) _ r (other_journal k c.journal c.table (record_of c.table c.placed seat ask)) disk n.1).0)
 
 -- ---- a command
 
@@ -144,7 +160,7 @@ numbers_from k c seat ask f h = numbers_among (role_refusal seat ask) (node_refu
 room_among : (a b d e g h i j l m n rest : Option Refusal) → or_else a (or_else b (or_else d (or_else e (or_else g (or_else h (or_else i (or_else j (or_else l (or_else m (or_else n rest)))))))))) ≡ None → n ≡ None
 room_among a b d e g h i j l m n rest p = or_first n rest (or_then m _ (or_then l _ (or_then j _ (or_then i _ (or_then h _ (or_then g _ (or_then e _ (or_then d _ (or_then b _ (or_then a _ p))))))))))
 
-room_from : (k : Site) (c : Cluster) (seat : Seat) (ask : Ask) (f : Faults) → ask_refusal k c seat ask f ≡ None → journal_refusal k c.journal c.table (record_of c.table c.placed seat ask) ≡ None
+pub room_from : (k : Site) (c : Cluster) (seat : Seat) (ask : Ask) (f : Faults) → ask_refusal k c seat ask f ≡ None → journal_refusal k c.journal c.table (record_of c.table c.placed seat ask) ≡ None
 room_from k c seat ask f h = room_among (role_refusal seat ask) (node_refusal c.nodes ask) (range_refusal ask) (state_refusal c.jobs seat ask) (job_refusal c.jobs seat ask) (marked_refusal c.jobs ask) (alive_refusal c.nodes ask) (batch_refusal c.table seat ask) (numbers_refusal c.table seat ask) (bytes_refusal k c.table seat ask) (journal_refusal k c.journal c.table (record_of c.table c.placed seat ask)) _ h
 
 done_tells : (k : Site) (c d : Cluster) (r : Option BatchRecord) → IsTaken c.table r → journal_refusal k c.journal c.table r ≡ None → d.table ≡ kept_table r c.table → d.journal ≡ kept_journal k r c.journal → Tells k (kept_event r) c d

@@ -71,22 +71,22 @@ frees (Retry id attempt) n t is taken o = absurd is
 frees (Next id) n t is taken o = absurd is
 
 -- An Abort, a Finish and a Lost that are taken always fit.
-pub outcome_fits : (k : Site) (c : Cluster) (r : BatchRecord) (n : ℕ) → IsOutcome r n → refusal r c.table ≡ None → IsKeyed c.table → IsShort k r → Fits k c → need k c.journal c.table r ≤ k.setup.limits.journal
-outcome_fits k c r n is taken o short fits = let e = frees r n c.table is taken o in let s = short n is in omega (arith, e, s, fits)
+pub outcome_fits : (k : Site) (end : ℕ) (t : Table) (r : BatchRecord) (n : ℕ) → IsOutcome r n → refusal r t ≡ None → IsKeyed t → IsShort k r → end + reserve t ≤ k.setup.limits.journal → need k end t r ≤ k.setup.limits.journal
+outcome_fits k end t r n is taken o short fits = let e = frees r n t is taken o in let s = short n is in omega (arith, e, s, fits)
 
 -- ---- any record
 
-has_room : (k : Site) (c : Cluster) (r : BatchRecord) → room_refusal k c.journal c.table r ≡ None → need k c.journal c.table r ≤ k.setup.limits.journal
-has_room k c r h = let b : nat_le (need k c.journal c.table r) k.setup.limits.journal ≡ true = unless_none _ (JOURNALFULL (need k c.journal c.table r) k.setup.limits.journal) h in grind (arith, nat_tests, b)
+has_room : (k : Site) (end : ℕ) (t : Table) (r : BatchRecord) → room_refusal k end t r ≡ None → need k end t r ≤ k.setup.limits.journal
+has_room k end t r h = let b : nat_le (need k end t r) k.setup.limits.journal ≡ true = unless_none _ (JOURNALFULL (need k end t r) k.setup.limits.journal) h in grind (arith, nat_tests, b)
 
-record_fits : (k : Site) (c : Cluster) (r : BatchRecord) → refusal r c.table ≡ None → journal_refusal k c.journal c.table (Some r) ≡ None → IsKeyed c.table → IsShort k r → Fits k c → need k c.journal c.table r ≤ k.setup.limits.journal
-record_fits k c (Abort id attempt) taken room o short fits = outcome_fits k c (Abort id attempt) 1 refl taken o short fits
-record_fits k c (Finish id attempt result) taken room o short fits = outcome_fits k c (Finish id attempt result) 1 refl taken o short fits
-record_fits k c (Lost items) taken room o short fits = outcome_fits k c (Lost items) (length items) refl taken o short fits
-record_fits k c (Create id attempt body) taken room o short fits = has_room k c (Create id attempt body) room
-record_fits k c (Discard id) taken room o short fits = has_room k c (Discard id) room
-record_fits k c (Retry id attempt) taken room o short fits = has_room k c (Retry id attempt) room
-record_fits k c (Next id) taken room o short fits = has_room k c (Next id) room
+pub record_fits : (k : Site) (end : ℕ) (t : Table) (r : BatchRecord) → refusal r t ≡ None → journal_refusal k end t (Some r) ≡ None → IsKeyed t → IsShort k r → end + reserve t ≤ k.setup.limits.journal → need k end t r ≤ k.setup.limits.journal
+record_fits k end t (Abort id attempt) taken room o short fits = outcome_fits k end t (Abort id attempt) 1 refl taken o short fits
+record_fits k end t (Finish id attempt result) taken room o short fits = outcome_fits k end t (Finish id attempt result) 1 refl taken o short fits
+record_fits k end t (Lost items) taken room o short fits = outcome_fits k end t (Lost items) (length items) refl taken o short fits
+record_fits k end t (Create id attempt body) taken room o short fits = has_room k end t (Create id attempt body) room
+record_fits k end t (Discard id) taken room o short fits = has_room k end t (Discard id) room
+record_fits k end t (Retry id attempt) taken room o short fits = has_room k end t (Retry id attempt) room
+record_fits k end t (Next id) taken room o short fits = has_room k end t (Next id) room
 
 -- ---- a step
 
@@ -101,7 +101,7 @@ as_before k c d table end o fits = record { ordered = subst IsKeyed (sym table) 
 pub event_stays : (k : Site) (event : Option Event) (c d : Cluster) → Tells k event c d → (more : List Event) → AreShort k (option_to_list event ++ more) → IsKeyed c.table → Fits k c → Stays k c d × AreShort k more
 event_stays k None c d tells more short o fits = (as_before k c d tells.0 tells.1 o fits, short)
 event_stays k (Some (was_kept r)) c d tells more short o fits =
-    let n = record_fits k c r tells.0 tells.1 o short.0 fits in
+    let n = record_fits k c.journal c.table r tells.0 tells.1 o short.0 fits in
     let e = ap reserve tells.2 in
     (record { ordered = subst IsKeyed (sym tells.2) (keyed_kept r c.table tells.0 o); fits = omega (arith, n, e, tells.3); rises = omega (arith, tells.3) }, short.1)
 event_stays k (Some (was_failed r)) c d tells more short o fits = (as_before k c d tells.1 tells.2 o fits, short)
@@ -148,7 +148,7 @@ pub behind_fits : (k : Site) (rs : List BatchRecord) (end : ℕ) (H : List Entry
     → refusal r (cluster_behind k (after rs no_rows) end H N).table ≡ None → need k (cluster_behind k (after rs no_rows) end H N).journal (cluster_behind k (after rs no_rows) end H N).table r ≤ k.setup.limits.journal
 behind_fits k rs end H N r n taken fits is short now =
     let o = keyed_after rs taken in
-    outcome_fits k (cluster_behind k (after rs no_rows) end H N) r n is now (ordered_history k H N 0 (opened k (after rs no_rows) end) (opened_is_good k (after rs no_rows) end o) o) short fits
+    outcome_fits k (cluster_behind k (after rs no_rows) end H N).journal (cluster_behind k (after rs no_rows) end H N).table r n is now (ordered_history k H N 0 (opened k (after rs no_rows) end) (opened_is_good k (after rs no_rows) end o) o) short fits
 
 -- The end never falls.
 event_rises : (k : Site) (event : Option Event) (c d : Cluster) → Tells k event c d → c.journal ≤ d.journal

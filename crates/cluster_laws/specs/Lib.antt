@@ -1,4 +1,5 @@
 pub mod Bounds
+pub mod OwnRoom
 pub mod Places
 pub mod Seated
 pub mod Sound

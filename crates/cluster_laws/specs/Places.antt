@@ -1,5 +1,5 @@
 -- What may be said of each place that is given, apart from how it is found.
-use Rattle.std.specs.Prelude.{◌≡◌, ◌≢◌, ◌⊎◌, ◌<◌, ◌≤◌, ◌+◌, ⊤, ℤ, pos, List, [], ◌∷◌, ◌++◌}
+use Rattle.std.specs.Prelude.{◌≡◌, ◌≢◌, ◌⊎◌, ◌<◌, ◌≤◌, ◌+◌, ⊤, ℕ, ℤ, pos, List, [], ◌∷◌, ◌++◌, map}
 use Rattle.base_names.specs.declared.node.NodeLine.{NodeLine}
 use Rattle.base_names.specs.declared.node.NodeState.TheVariants.{Alive}
 use Rattle.base_names.specs.declared.node.Placed.{Placed}
@@ -58,6 +58,9 @@ CannotRun ns w = Every (λ (n : NodeLine). MayRun w.priority n → ⊥) ns
 -- the nodes when these places are given
 abbrev pub lines_behind : List Placed → List NodeLine → List NodeLine
 lines_behind ps ns = each (λ (p : Placed). occupied p.node) ps ns
+
+abbrev pub line_numbers : List NodeLine → List ℕ
+line_numbers ns = map (λ n. n.node.0) ns
 
 -- what these places add to the attempts that run
 abbrev pub new_attempts : List Placed → List Running

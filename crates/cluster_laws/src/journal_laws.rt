@@ -19,6 +19,7 @@ ghost use Rattle.cluster_defs.specs.Refusals.{need};
 ghost use Rattle.cluster_defs.specs.Room.{AreShort, Fits, IsOutcome, IsShort};
 ghost use Rattle.cluster_defs.specs.Site.{Site};
 ghost use Rattle.cluster_defs.specs.Step.{step};
+ghost use Rattle.cluster_laws.specs.OwnRoom.{HasRoom, IsShortEvent};
 ghost use Rattle.cluster_laws.specs.Places.{Every};
 ghost use Rattle.cluster_laws.specs.Sound.{IsSound};
 
@@ -47,6 +48,13 @@ pub fn an_openings_end_is_its_journals()
         → IsLegal k (table_behind first) o.end o.faults o.history o.returned → Brings (events_of k (table_behind first) o) first last → (cluster_at k (table_behind first) o).journal ≡ end_of k last.records }
     ensures kept { (k : Site) (c : Cluster) (d : Deed) (f : Faults) (r : BatchRecord) → IsSound c → event_in c d (step k c d f).reply ≡ Some (was_kept r) → (step k c d f).next.journal ≡ c.journal + 5 + k.record_bytes r }
     ensures nothing { (k : Site) (c : Cluster) (d : Deed) (f : Faults) → IsSound c → event_in c d (step k c d f).reply ≡ None → (step k c d f).next.journal ≡ c.journal }
+{}
+
+/// From the empty disk on a store's journal has room for the outcomes of all that goes on, also with the record in doubt, where
+/// the records of outcomes are short. So it has at each opening, and what is said of a journal that fits then is said of it.
+pub fn a_journal_has_room_for_outcomes()
+    ensures always { (k : Site) (events : List Event) (j : Journal) → Life k events j → 8 ≤ k.setup.limits.journal → Every (IsShortEvent k) events → HasRoom k j }
+    ensures opened { (k : Site) (events : List Event) (j first : Journal) (end : ℕ) → Life k events j → 8 ≤ k.setup.limits.journal → Every (IsShortEvent k) events → Becomes was_opened j first → end ≡ end_of k first.records → Fits k (opened k (table_behind first) end) }
 {}
 
 /// Through openings of one disk, one after the other, its faults are counted up over all entries: each begins with at least

@@ -1,5 +1,7 @@
 //! What holds of a cluster behind every step and every history, as contracts without code.
-ghost use Rattle.std.specs.Prelude.{◌≡◌, ◌≤◌, ℕ, Bool, List, [], ◌∷◌, false, filter, is_some, length, not, true};
+ghost use Rattle.std.specs.Prelude.{◌≡◌, ◌≤◌, ℕ, ℤ, Bool, List, [], ◌∷◌, false, filter, is_some, length, not, true};
+ghost use Rattle.base_names.specs.declared.node.NodeLine.{NodeLine};
+ghost use Rattle.base_names.specs.declared.node.Placed.{Placed};
 ghost use Rattle.base_names.specs.declared.seat.Seat.{Seat};
 ghost use Rattle.model_data.specs.declared.batch.BatchRecord.{BatchRecord};
 ghost use Rattle.model_data.specs.declared.batch.BatchRow.{BatchRow};
@@ -14,7 +16,7 @@ ghost use Rattle.cluster_defs.specs.Legal.{GivenBack, IsLegal, cluster_behind};
 ghost use Rattle.cluster_defs.specs.Listing.{AreInOrder, IsInOrder, by_id, listed_jobs};
 ghost use Rattle.cluster_defs.specs.Opened.{opened};
 ghost use Rattle.cluster_defs.specs.Placement.{place, settled};
-ghost use Rattle.cluster_laws.specs.Places.{IsIn, lines_behind};
+ghost use Rattle.cluster_laws.specs.Places.{HasNoMore, IsBest, IsIn, MayRun, line_numbers, lines_behind};
 ghost use Rattle.cluster_laws.specs.Seated.{IsSeated, IsSettled, jobs_for};
 ghost use Rattle.cluster_defs.specs.Site.{Site};
 ghost use Rattle.cluster_laws.specs.Sound.{IsSound};
@@ -55,12 +57,14 @@ pub fn jobs_are_listed_in_order()
     ensures batches_ordered { (rows : List BatchRow) → AreInOrder (by_id rows) }
 {}
 
-/// The nodes of an opened cluster are in the order of their numbers, and behind every history they are those. So the first of
-/// several nodes is the one with the least number.
+/// The nodes of an opened cluster are in the order of their numbers, and behind every history they are those, also while places
+/// are given. So of several nodes on which a job may run with as much room as the best, none has a lesser number.
 pub fn nodes_keep_their_numbers()
     ensures rising { (k : Site) (t : Table) (end : ℕ) → IsRisingFrom 0 (numbers_of (opened k t end).nodes) }
     ensures behind { (k : Site) (t : Table) (end : ℕ) (history : List Entry) (returned : List GivenBack) → numbers_of (cluster_behind k t end history returned).nodes ≡ numbers_of (opened k t end).nodes }
     ensures step { (k : Site) (c : Cluster) (d : Deed) (f : Faults) → numbers_of (step k c d f).next.nodes ≡ numbers_of c.nodes }
+    ensures placing { (c : Cluster) (ps : List Placed) → line_numbers (lines_behind ps (lines c)) ≡ numbers_of c.nodes }
+    ensures least { (priority : ℤ) (ns : List NodeLine) (best other : NodeLine) → IsBest priority ns best → IsRisingFrom 0 (line_numbers ns) → IsIn other ns → MayRun priority other → HasNoMore best other → best.node.0 ≤ other.node.0 }
 {}
 
 /// Over a legal history no owner has more counted entries than the limit on commands.
