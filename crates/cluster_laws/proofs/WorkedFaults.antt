@@ -1,14 +1,13 @@
 -- Two openings of one disk: in the first one a batch is refused by the disk, and in the second one it is made.
-use Rattle.std.proofs.Common.{◌≡◌, refl, ℕ, ◌≤◌, ◌<◌, List, [], ◌∷◌, None, arith}
+use Rattle.std.proofs.Common.{refl, List, [], ◌∷◌, None, arith}
 use Rattle.base_names.specs.declared.refusal.Refusal.TheVariants.{DISK}
 use Rattle.table_defs.specs.Names.{is_id, is_owner}
 use Rattle.table_defs.specs.Table.{no_rows}
 use Rattle.cluster_defs.specs.Asks as asks
-use Rattle.cluster_defs.specs.Counted.{AreCounted, AreLegal, AreOfOneDisk, histories}
+use Rattle.cluster_defs.specs.Counted.{AreCounted, AreLegal, AreOfOneDisk}
 use Rattle.cluster_defs.specs.Deeds.{Asked}
 use Rattle.cluster_defs.specs.Entries as answers
 use Rattle.cluster_defs.specs.Entries.{Entry}
-use Rattle.cluster_defs.specs.Legal.{IsStep}
 use Rattle.cluster_defs.specs.Life.{Opening}
 use Rattle.cluster_defs.specs.Replies as tells
 use Rattle.cluster_defs.specs.Waiters.{is_node, is_seat}
