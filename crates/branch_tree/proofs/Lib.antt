@@ -1,0 +1,6 @@
+mod Finished
+mod Relaxing
+mod Repeated
+mod Stacked
+mod Turned
+mod Underway

@@ -1,0 +1,10 @@
+pub mod Counted
+pub mod Findings
+pub mod Next
+pub mod ManyTurns
+pub mod Solver
+pub mod Solves
+pub mod Stack
+pub mod Stage
+pub mod Under
+pub mod Waits
