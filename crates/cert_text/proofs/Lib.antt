@@ -1,0 +1,12 @@
+pub mod Added
+pub mod Basics
+pub mod EntryTexts
+pub mod Finishing
+pub mod FirstBadLine
+pub mod Missing
+pub mod NumberTexts
+pub mod ReadLines
+pub mod Runs
+pub mod Stages
+pub mod Steps
+pub mod Words
