@@ -272,3 +272,12 @@ dual_fits d kept = weights_kept d d.objective kept.objective
 pub farkas_fits : (d : Dictionary) (w : List Fraction) → d.auxiliary ≡ Some w → HasKeptEntries d → All IsKept (farkas_of d).ys
 unfolding farkas_of
 farkas_fits d w is_w kept = subst (λ o. All IsKept (duals d (unwrap_or o [])).ys) (sym is_w) (weights_kept d w (subst (λ o. IfSome o (All IsKept)) is_w kept.auxiliary))
+
+-- What can be kept is in lowest terms.
+pub kept_is_lowest : (s : Std) → HasKeptForm s → HasReducedNumbers s
+kept_is_lowest s kept = record {
+  coefs = λ k e within i d inside. let own = kept.coefs k e within i d inside in own.nothing_in_common;
+  sides = λ k e within. let own = kept.sides k e within in own.nothing_in_common;
+  obj = λ k e within. let own = kept.obj k e within in own.nothing_in_common;
+  constant = let own = kept.constant in own.nothing_in_common;
+}

@@ -192,12 +192,16 @@ run_ends m p zero n (going s) counts enough =
 run_ends m p (suc k) n (going s) counts enough =
     subst (λ r. IsOver r.progress) (sym (run-going m p k s)) (run_ends m p k (suc n) (turn m p s).progress (turn_leads m p n s counts) (omega (arith, enough)))
 
+-- the first turn is that of the root
+first_totals : (m : Model) (p : Params) → Totals p 1 (turn m p start).progress
+first_totals m p =
+    subst (λ (t : Turn). Totals p 1 t.progress) (sym (first_turn m p)) (on_leads m p 0 (next_node m p start) (counted p 0 0 (next_node m p start) (root_leads m p)))
+
 -- so many turns, the first of them that of the root
 started_over : (m : Model) (p : Params) (k : ℕ) → p.iterations + p.nodes ≤ suc k → IsOver (run m p (suc k) (going start)).progress
 started_over m p k enough =
     subst (λ r. IsOver r.progress) (sym (run-going m p k start))
-    (run_ends m p k 1 (turn m p start).progress
-    (subst (λ (t : Turn). Totals p 1 t.progress) (sym (first_turn m p)) (on_leads m p 0 (next_node m p start) (counted p 0 0 (next_node m p start) (root_leads m p)))) (omega (arith, enough)))
+    (run_ends m p k 1 (turn m p start).progress (first_totals m p) (omega (arith, enough)))
 
 pub plain_over : (m : Model) (p : Params) → IsOver (plain_run m p).progress
 plain_over m p = subst (λ n. IsOver (run m p n (going start)).progress) one_more (started_over m p (p.iterations + p.nodes) (omega arith))
@@ -247,8 +251,7 @@ cut_keeps p n (over o cert) keeps = keeps
 pub plain_cut_keeps : (m : Model) (p : Params) (k : ℕ) → KeepsLimits p (plain_cut m p k).outcome
 plain_cut_keeps m p zero = subst (λ r. KeepsLimits p (cut_off r.progress).outcome) (sym (run-none m p (going start))) record { pivots = omega arith; nodes = omega arith; work = omega arith }
 plain_cut_keeps m p (suc k) =
-    let rest = run_keeps m p k 1 (turn m p start).progress
-    (subst (λ (t : Turn). Totals p 1 t.progress) (sym (first_turn m p)) (on_leads m p 0 (next_node m p start) (counted p 0 0 (next_node m p start) (root_leads m p)))) in
+    let rest = run_keeps m p k 1 (turn m p start).progress (first_totals m p) in
     subst (λ r. KeepsLimits p (cut_off r.progress).outcome) (sym (run-going m p k start)) (cut_keeps p rest.0 (run m p k (turn m p start).progress).progress rest.1)
 
 -- ---- one turn, and how many
@@ -262,3 +265,28 @@ pub turn_raises : (m : Model) (p : Params) (s : Search) (node : Node) → s.node
 turn_raises m p s node is pivots work nodes =
     totals_meet p (suc (s.pivots + s.nodes)) (turn m p s).progress
     (turn_leads m p (s.pivots + s.nodes) s record { total = refl; within = record { node = node; is_node = is; pivots = pivots; work = work; nodes = nodes } })
+
+-- ---- the counts of a search that goes on
+
+same_search : (t s : Search) → going t ≡ going s → t ≡ s
+same_search t s e = cc
+
+not_over : (o : Outcome) (cert : Cert) (s : Search) → over o cert ≡ going s → ⊥
+not_over o cert s e = absurd (cc)
+
+total_at : (p : Params) (n : ℕ) (at : Progress) (s : Search) → Totals p n at → at ≡ going s → s.pivots + s.nodes ≡ n
+total_at p n (going t) s counts is = subst (λ (u : Search). u.pivots + u.nodes ≡ n) (same_search t s is) counts.total
+total_at p n (over o cert) s keeps is = absurd (not_over o cert s is)
+
+counts_on : (m : Model) (p : Params) (k n : ℕ) (at : Progress) (s : Search) → Totals p n at → (run m p k at).progress ≡ going s → s.pivots + s.nodes ≡ n + k
+counts_on m p k n (over o cert) s keeps is = total_at p (n + k) (over o cert) s keeps (sym (ap (λ (r : Run). r.progress) (run-over m p k o cert)) ∙ is)
+counts_on m p zero n (going t) s counts is =
+    let total = total_at p n (going t) s counts (sym (ap (λ (r : Run). r.progress) (run-none m p (going t))) ∙ is) in omega (arith, total)
+counts_on m p (suc k) n (going t) s counts is =
+    let total = counts_on m p k (suc n) (turn m p t).progress s (turn_leads m p n t counts) (sym (ap (λ (r : Run). r.progress) (run-going m p k t)) ∙ is) in omega (arith, total)
+
+-- Behind so many turns a search that goes on has made and finished as many pivots and nodes.
+pub counts_are_turns : (m : Model) (p : Params) (k : ℕ) (s : Search) → (run m p k (going start)).progress ≡ going s → s.pivots + s.nodes ≡ k
+counts_are_turns m p zero s is = subst (λ (u : Search). u.pivots + u.nodes ≡ 0) (same_search start s (sym (ap (λ (r : Run). r.progress) (run-none m p (going start))) ∙ is)) refl
+counts_are_turns m p (suc k) s is =
+    let total = counts_on m p k 1 (turn m p start).progress s (first_totals m p) (sym (ap (λ (r : Run). r.progress) (run-going m p k start)) ∙ is) in omega (arith, total)
