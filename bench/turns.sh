@@ -9,14 +9,22 @@ needs_rustc() {
         { echo "$1: needs rustc with edition 2024 (1.85 or later); this is $(rustc --version)" >&2; exit 2; }
 }
 
+# needs_python BENCH: ends with a clear line where there is no python3.
+needs_python() {
+    command -v python3 >/dev/null || { echo "$1: needs python3; there is none" >&2; exit 2; }
+}
+
 # in_turns PROVED PLAIN [BARS]: runs both in turns, and prints the least time of each for each case and their ratio. Fails where
-# results differ, or where a ratio is above its bar: 1.15, or what BARS has for the case, as in 'cmp wide:0.7'.
+# results differ, or where a ratio is above its bar: 1.15, or what BARS has for the case, as in 'cmp wide:0.7,mul wide:1.2'.
 in_turns() {
     for _ in 1 2 3 4 5 6 7 8 9; do
         "$1" time | sed 's/^/proved /'
         "$2" time | sed 's/^/plain /'
     done | awk -v bars="${3:-}" '
-        BEGIN { if (split(bars, own, ":") == 2) bar[own[1]] = own[2] }
+        BEGIN {
+            own = split(bars, entries, ",")
+            for (i = 1; i <= own; i++) if (split(entries[i], parts, ":") == 2) bar[parts[1]] = parts[2]
+        }
         {
             name = $2 " " $3
             if (!(name in seen)) { seen[name] = 1; names[++count] = name }

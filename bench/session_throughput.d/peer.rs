@@ -1,88 +1,161 @@
-//! The same session in plain Rust over std, for comparison: what `bench/session_throughput` runs
-//! beside the program. It reads a session's commands and writes their answers, and proves nothing.
+//! A session in plain Rust, for comparison: what `bench/session_throughput` runs beside the program. It reads a session's
+//! commands and writes their answers, with the reader of `bench/lp` for the texts of models, and proves nothing.
+//!
+//! It knows the commands of that bench: `READ`, `SETVTAG`, `BATCH`, `BSTATUS` and `BYE`.
+#[path = "../frac.d/fraction.rs"]
+#[allow(dead_code)]
+mod fraction;
+#[path = "../lp.d/lexer.rs"]
+mod lexer;
+#[path = "../lp.d/model.rs"]
+#[allow(dead_code)]
+mod model;
+#[path = "../lp.d/parser.rs"]
+mod parser;
+
+use model::Model;
 use std::io::{self, BufRead, Read, Write};
+
+const MAX_TEXT: usize = 1 << 20;
+
+/// What a session holds.
+#[derive(Default)]
+struct Session {
+    owner: Vec<u8>,
+    model: Model,
+    /// The tag of each variable.
+    tags: Vec<Option<Vec<u8>>>,
+    /// Tags that wait for the next batch, each with its variable's place.
+    queued: Vec<(usize, Vec<u8>)>,
+    /// The status of each batch.
+    batches: Vec<u8>,
+}
+
+impl Session {
+    fn read(&mut self, text: &[u8], output: &mut impl Write) -> io::Result<()> {
+        match parser::parse(text) {
+            Ok(model) => {
+                self.tags = vec![None; model.vars.len()];
+                self.model = model;
+                self.queued.clear();
+                output.write_all(b"OK\n")
+            }
+            Err(fault) => writeln!(output, "ERR 4 MODEL {} {} {:?}", fault.line, fault.column, fault.word),
+        }
+    }
+
+    /// The tag that the variable has once what is queued is applied.
+    fn tag_of(&self, var: usize) -> Option<&[u8]> {
+        let queued = self.queued.iter().rev().find(|(queued, _)| *queued == var);
+        queued.map(|(_, tag)| &tag[..]).or(self.tags[var].as_deref())
+    }
+
+    fn set_tag(&mut self, name: &[u8], tag: &[u8]) -> &'static [u8] {
+        let Some(var) = self.model.vars.iter().position(|var| var.name == name) else {
+            return b"ERR 5 NAME\n";
+        };
+        if (0..self.tags.len()).any(|other| other != var && self.tag_of(other) == Some(tag)) {
+            return b"ERR 6 DUPLICATE\n";
+        }
+        self.queued.push((var, tag.to_vec()));
+        b"OK\n"
+    }
+
+    fn batch(&mut self, output: &mut impl Write) -> io::Result<()> {
+        for (var, tag) in self.queued.drain(..) {
+            self.tags[var] = Some(tag);
+        }
+        if self.tags.iter().all(Option::is_none) {
+            return output.write_all(b"ERR 9 NOTAG\n");
+        }
+        self.batches.push(2);
+        output.write_all(b"BATCH ")?;
+        output.write_all(&self.owner)?;
+        writeln!(output, ".{}", self.batches.len())
+    }
+
+    fn status(&self, id: &[u8], output: &mut impl Write) -> io::Result<()> {
+        let Some((owner, number)) = batch_id(id) else {
+            return output.write_all(b"ERR 2 LINE\n");
+        };
+        let status = (number as usize).checked_sub(1).and_then(|place| self.batches.get(place));
+        match status {
+            Some(status) if owner == self.owner => {
+                output.write_all(b"BSTATUS ")?;
+                output.write_all(id)?;
+                writeln!(output, " {status}")
+            }
+            _ => output.write_all(b"ERR 13 BATCH\n"),
+        }
+    }
+}
 
 fn is_tag(text: &[u8]) -> bool {
     (1..=255).contains(&text.len()) && text.iter().all(u8::is_ascii_graphic)
 }
 
-fn number(text: &[u8]) -> Option<u32> {
-    let leading_zero = text.len() > 1 && text[0] == b'0';
-    if text.is_empty() || leading_zero || !text.iter().all(u8::is_ascii_digit) {
+/// The owner and the number of a batch's ID.
+fn batch_id(id: &[u8]) -> Option<(&[u8], u32)> {
+    let point = id.iter().position(|byte| *byte == b'.')?;
+    let (owner, number) = (&id[..point], &id[point + 1..]);
+    let is_owner = |byte: &u8| byte.is_ascii_lowercase() || byte.is_ascii_digit() || *byte == b'_';
+    let leading_zero = number.len() > 1 && number[0] == b'0';
+    if !(1..=32).contains(&owner.len()) || !owner.iter().all(is_owner) || leading_zero {
         return None;
     }
-    std::str::from_utf8(text).ok()?.parse().ok()
+    Some((owner, decimal(number)?))
 }
 
-fn variable(block: &[u8]) -> Option<u8> {
-    let rest = block.strip_prefix(b"Minimize\n ")?;
-    let (variable, rest) = rest.split_first().filter(|(b, _)| b.is_ascii_lowercase())?;
-    let rest = rest.strip_prefix(b"\nSubject To\n ")?;
-    let (_, rest) = rest.split_first().filter(|(b, _)| b.is_ascii_lowercase())?;
-    let rest = rest.strip_prefix(b": ")?.strip_prefix(&[*variable])?;
-    let bound = rest.strip_prefix(b" >= ")?.strip_suffix(b"\nEnd\n")?;
-    let digits = (1..=18).contains(&bound.len()) && bound.iter().all(u8::is_ascii_digit);
-    digits.then_some(*variable)
+fn decimal(digits: &[u8]) -> Option<u32> {
+    if digits.is_empty() || !digits.iter().all(u8::is_ascii_digit) {
+        return None;
+    }
+    std::str::from_utf8(digits).ok()?.parse().ok()
+}
+
+/// The line without its end.
+fn without_end(line: &[u8]) -> &[u8] {
+    match line {
+        [front @ .., b'\r', b'\n'] | [front @ .., b'\n'] => front,
+        _ => line,
+    }
 }
 
 fn main() -> io::Result<()> {
     let owner = std::env::args().nth(2).expect("session NAME").into_bytes();
+    let mut session = Session { owner, ..Session::default() };
     let mut input = io::BufReader::with_capacity(1 << 16, io::stdin().lock());
+    // As the program does, it writes each answer before it reads the next command.
     let mut output = io::stdout();
-    let (mut line, mut block) = (Vec::new(), Vec::new());
-    let (mut model, mut batches): (Option<(u8, bool)>, Vec<u8>) = (None, Vec::new());
+    let (mut line, mut block, mut answer) = (Vec::new(), Vec::new(), Vec::new());
     loop {
         line.clear();
+        answer.clear();
         if input.read_until(b'\n', &mut line)? == 0 {
             return Ok(());
         }
-        if line.ends_with(b"\n") {
-            line.pop();
-            if line.ends_with(b"\r") {
-                line.pop();
-            }
-        }
-        let words: Vec<&[u8]> = line.split(|b| *b == b' ' || *b == b'\t').filter(|w| !w.is_empty()).collect();
-        let refused = b"ERR 2 LINE\n".to_vec();
-        let reply = match words[..] {
-            [b"BYE"] => b"BYE\n".to_vec(),
-            [b"READ", len] if (1..=4).contains(&len.len()) && len.iter().all(u8::is_ascii_digit) => {
-                block.resize(std::str::from_utf8(len).unwrap().parse().unwrap(), 0);
-                if input.read_exact(&mut block).is_err() {
-                    return Ok(());
-                }
-                match variable(&block) {
-                    Some(name) => {
-                        model = Some((name, false));
-                        b"OK\n".to_vec()
+        let mut words = without_end(&line).split(|byte| *byte == b' ' || *byte == b'\t').filter(|word| !word.is_empty());
+        let words = [words.next(), words.next(), words.next(), words.next()];
+        match words {
+            [Some(b"BYE"), None, ..] => answer.extend(b"BYE\n"),
+            [Some(b"READ"), Some(length), None, _] => match decimal(length).map(|length| length as usize) {
+                Some(length) if length <= MAX_TEXT => {
+                    block.resize(length, 0);
+                    if input.read_exact(&mut block).is_err() {
+                        return Ok(());
                     }
-                    None => b"ERR 4 MODEL 1 1 UNSUPPORTED\n".to_vec(),
+                    session.read(&block, &mut answer)?;
                 }
-            }
-            [b"SETVTAG", [name], tag] if is_tag(tag) => match &mut model {
-                Some((variable, tagged)) if variable == name => {
-                    *tagged = true;
-                    b"OK\n".to_vec()
-                }
-                _ => refused,
+                Some(_) => answer.extend(b"ERR 10 SIZE\n"),
+                None => answer.extend(b"ERR 2 LINE\n"),
             },
-            [b"BATCH"] if matches!(model, Some((_, true))) => {
-                batches.push(2);
-                [b"BATCH ".as_slice(), &owner, format!(".{}\n", batches.len()).as_bytes()].concat()
-            }
-            [b"BSTATUS", id] => match id.iter().position(|b| *b == b'.').and_then(|at| Some((&id[..at], number(&id[at + 1..])?))) {
-                Some((name, k)) if name == owner && (1..=batches.len()).contains(&(k as usize)) => {
-                    [b"BSTATUS ".as_slice(), id, b" 2\n"].concat()
-                }
-                Some((name, _)) if (1..=32).contains(&name.len()) && name.iter().all(|b| b.is_ascii_lowercase() || b.is_ascii_digit() || *b == b'_') => {
-                    b"ERR 13 BATCH\n".to_vec()
-                }
-                _ => refused,
-            },
-            _ => refused,
-        };
-        output.write_all(&reply)?;
-        if words == [b"BYE"] {
+            [Some(b"SETVTAG"), Some(name), Some(tag), None] if is_tag(tag) => answer.extend(session.set_tag(name, tag)),
+            [Some(b"BATCH"), None, ..] => session.batch(&mut answer)?,
+            [Some(b"BSTATUS"), Some(id), None, _] => session.status(id, &mut answer)?,
+            _ => answer.extend(b"ERR 2 LINE\n"),
+        }
+        output.write_all(&answer)?;
+        if matches!(words, [Some(b"BYE"), None, ..]) {
             return Ok(());
         }
     }

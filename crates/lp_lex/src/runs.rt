@@ -138,8 +138,7 @@ fn run_len(bytes: &[u8], known: usize) -> usize
 fn is_simple_byte(byte: u8) -> bool
     ensures { result ≡ is_simple_byte byte }
 {
-    // Small letters first, of which names mostly are.
-    matches!(byte, b']'..=b'~' | b'!'..=b'9' | b';'..=b'[')
+    byte.is_ascii_graphic() && byte != b'\\' && byte != b':'
 }
 
 fn is_run_byte(byte: u8) -> bool
