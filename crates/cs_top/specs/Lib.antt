@@ -1,3 +1,3 @@
-pub mod CommandLine
 pub mod OwnDesk
 pub mod Run
+pub mod Task

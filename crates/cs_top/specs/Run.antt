@@ -1,9 +1,11 @@
 -- What the top call leaves behind, by its status.
-use Rattle.std.specs.Prelude.{ℕ, true, false, ◌≡◌, ◌⊎◌, ◌==◌, List, [], ◌++◌, codes, Option, if◌then◌else◌}
+use Rattle.std.specs.Prelude.{ℕ, true, false, ◌≡◌, ◌⊎◌, List, [], ◌++◌, codes, Option, IfSome}
 use Rattle.base_names.specs.Outside.{Rose, Reads, Writes, IsAtEnd}
 use Rattle.base_names.specs.Prefix.{IsPrefix}
 use Rattle.base_names.specs.declared.seat.Role.TheVariants.{Standard}
 use Rattle.base_names.specs.declared.seat.Seat.{Seat}
+use Rattle.model_data.specs.declared.params.Params.{Params}
+use Rattle.lp_defs.specs.FaultText.{placed_text}
 use Rattle.session.specs.Beginning.{at_first}
 use Rattle.session.specs.Dialogue.{Told, IsFront}
 use Rattle.session.specs.Hearing.{Heard, entries_by, fulls_by}
@@ -12,31 +14,46 @@ use Rattle.session.specs.Transcript.{session_writing}
 use Rattle.session.specs.Writing.{Writing, MayFollow, IsNeeded}
 use Rattle.session.specs.declared.talking.End.{End}
 use Rattle.session.specs.declared.talking.End.TheVariants.{Bye, Closed, ReadFault as ReadFault', WriteFault as WriteFault', TooLong as TooLong', NoMemory as NoMemory'}
+use Rattle.solve_command.specs.Solve.{SolveSays}
+use Rattle.solve_command.specs.declared.command.SolveEnd.{SolveEnd}
+use Rattle.solve_command.specs.declared.command.SolveEnd.TheVariants as solve
 use Rattle.cs_top.specs.OwnDesk.{AreOwn}
 use Rattle.cs_top.specs.declared.status.Status.{Status}
-use Rattle.cs_top.specs.declared.status.Status.TheVariants.{Done, WordsRefused, ReadFault, WriteFault, NoMemory, TooLong}
-use Rattle.cs_top.specs.declared.command_line.Words.{Words}
-use Rattle.cs_top.specs.declared.command_line.Words.TheVariants.{Session}
+use Rattle.cs_top.specs.declared.status.Status.TheVariants.{Done, NoModel, WordsRefused, ReadFault, WriteFault, NoMemory, TooLong}
+use Rattle.cs_top.specs.Task.{task_asked}
+use Rattle.cs_top.specs.declared.task.Task.{Task}
+use Rattle.cs_top.specs.declared.task.Task.TheVariants.{Session, Solve}
 
 abbrev pub code_of : Status → ℕ
 code_of Done = 0
+code_of (NoModel fault) = 1
 code_of WordsRefused = 2
 code_of ReadFault = 3
 code_of WriteFault = 4
 code_of NoMemory = 6
 code_of TooLong = 7
 
-abbrev pub status_of : End → Status
-status_of Bye = Done
-status_of Closed = Done
-status_of ReadFault' = ReadFault
-status_of WriteFault' = WriteFault
-status_of TooLong' = TooLong
-status_of NoMemory' = NoMemory
+abbrev pub session_status : End → Status
+session_status Bye = Done
+session_status Closed = Done
+session_status ReadFault' = ReadFault
+session_status WriteFault' = WriteFault
+session_status TooLong' = TooLong
+session_status NoMemory' = NoMemory
 
--- The statuses: done 0, words refused 2, read fault 3, write fault 4, want of memory 6, input too long 7.
+abbrev pub solve_status : SolveEnd → Status
+solve_status solve.Done = Done
+solve_status (solve.NoModel fault) = NoModel fault
+solve_status solve.ReadFault = ReadFault
+solve_status solve.WriteFault = WriteFault
+solve_status solve.NoMemory = NoMemory
+solve_status solve.TooLong = TooLong
+
+-- The statuses: done 0, no model 1, words refused 2, read fault 3, write fault 4, want of memory 6, input too long 7.
 abbrev pub IsStatus : ℕ → Type 0
-IsStatus status = (status ≡ 0) ⊎ ((status ≡ 2) ⊎ ((status ≡ 3) ⊎ ((status ≡ 4) ⊎ ((status ≡ 6) ⊎ (status ≡ 7)))))
+IsStatus status = (status ≡ 0) ⊎ ((status ≡ 1) ⊎ ((status ≡ 2) ⊎ ((status ≡ 3) ⊎ ((status ≡ 4) ⊎ ((status ≡ 6) ⊎ (status ≡ 7))))))
+
+-- ---- a session
 
 -- What was taken from the source and told, its text on the sink, where the words are taken. It speaks of the bytes that
 -- were taken whether or not the source tells what it has left.
@@ -66,20 +83,56 @@ pub record SessionSays (status : ℕ) (owner : List ℕ) (left left' contents co
   pub own : AreOwn 0 (entries_by (seat_of owner) told.deeds)
   pub never_full : fulls_by 0 told.deeds ≡ 0
 
-abbrev pub RunsAs : Words → (status : ℕ) (left left' contents contents' : Option (List ℕ)) → Type 0
-RunsAs (Session owner) status left left' contents contents' = SessionSays status owner left left' contents contents'
+-- A session ends with none of the others.
+abbrev pub IsSessionStatus : Status → Type 0
+IsSessionStatus (NoModel fault) = ⊥
+IsSessionStatus WordsRefused = ⊥
+IsSessionStatus _ = Unit {0}
+
+abbrev pub SessionRuns : (owner : List ℕ) → Status → (left left' contents contents' : Option (List ℕ)) → Type 0
+SessionRuns owner status left left' contents contents' = IsSessionStatus status × SessionSays (code_of status) owner left left' contents contents'
+
+-- ---- a solve
+
+abbrev pub SolveRuns : Params → Status → (left left' contents contents' : Option (List ℕ)) → Type 0
+SolveRuns p Done left left' contents contents' = SolveSays p solve.Done left left' contents contents'
+SolveRuns p (NoModel fault) left left' contents contents' = SolveSays p (solve.NoModel fault) left left' contents contents'
+SolveRuns p WordsRefused left left' contents contents' = ⊥
+SolveRuns p ReadFault left left' contents contents' = SolveSays p solve.ReadFault left left' contents contents'
+SolveRuns p WriteFault left left' contents contents' = SolveSays p solve.WriteFault left left' contents contents'
+SolveRuns p NoMemory left left' contents contents' = SolveSays p solve.NoMemory left left' contents contents'
+SolveRuns p TooLong left left' contents contents' = SolveSays p solve.TooLong left left' contents contents'
+
+-- ---- the program
+
+abbrev pub RunsAs : Task → Status → (left left' contents contents' : Option (List ℕ)) → Type 0
+RunsAs (Session owner) status left left' contents contents' = SessionRuns owner status left left' contents contents'
+RunsAs (Solve p) status left left' contents contents' = SolveRuns p status left left' contents contents'
 
 -- the line that tells why
-abbrev pub error_line : ℕ → List ℕ
-error_line status =
-    if status == 2 then codes "words refused\n"
-    else (if status == 3 then codes "read fault\n"
-    else (if status == 4 then codes "write fault\n"
-    else (if status == 6 then codes "out of memory\n"
-    else (if status == 7 then codes "input too long\n" else []))))
+abbrev pub error_line : Status → List ℕ
+error_line Done = []
+error_line (NoModel fault) = codes "model: " ++ placed_text fault.line fault.column fault.fault ++ codes "\n"
+error_line WordsRefused = codes "words refused\n"
+error_line ReadFault = codes "read fault\n"
+error_line WriteFault = codes "write fault\n"
+error_line NoMemory = codes "out of memory\n"
+error_line TooLong = codes "input too long\n"
+
+-- What stands where the line of a status is to be written: for want of memory for a fault's line this is the status.
+abbrev pub IsReportOf : Status → Status → Type 0
+IsReportOf (NoModel fault) told = (told ≡ NoModel fault) ⊎ (told ≡ NoMemory)
+IsReportOf status told = told ≡ status
 
 -- The line is written, or a front of it where that sink's faults rose.
-abbrev pub Reports : (status faults faults' : ℕ) (contents contents' : Option (List ℕ)) → Type 0
-Reports status faults faults' contents contents' =
-    Writes contents contents' (error_line status)
-    ⊎ (Rose faults faults' × ((front : List ℕ) × IsPrefix front (error_line status) × Writes contents contents' front))
+abbrev pub Reports : (line : List ℕ) (faults faults' : ℕ) (contents contents' : Option (List ℕ)) → Type 0
+Reports line faults faults' contents contents' =
+    Writes contents contents' line
+    ⊎ (Rose faults faults' × ((front : List ℕ) × IsPrefix front line × Writes contents contents' front))
+
+-- How a run ended: with this code, after it did what its words asked for, and told why on the sink for errors.
+pub record Ends (words : List (List ℕ)) (code : ℕ) (left left' contents contents' : Option (List ℕ)) (faults faults' : ℕ) (errors errors' : Option (List ℕ)) : Type 0 where
+  pub status : Status
+  pub code_is : code_of status ≡ code
+  pub runs : IfSome (task_asked words) (λ task. RunsAs task status left left' contents contents')
+  pub reports : Reports (error_line status) faults faults' errors errors'

@@ -2,15 +2,15 @@
 //!
 //! [`run`] does all that the program does, and its contract says what stands on the sinks afterwards. What a session
 //! writes for its input is said in `session`; `specs/OwnDesk.antt` says what the desk replies over which `run` holds
-//! one, and `specs/Run.antt` what the top call leaves behind by its status.
+//! one, `specs/Task.antt` what words have the program do, and `specs/Run.antt` what the top call leaves behind by its status.
 #![tactic(auto)]
 
-mod command_line;
 mod own_desk;
 mod status;
+mod task;
 mod top_call;
 
-pub use command_line::{Words, WordsFault, read_words};
+pub use command_words::{Words, WordsFault, read_words};
 pub use top_call::run;
 
 #[cfg(test)]

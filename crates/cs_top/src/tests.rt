@@ -229,7 +229,11 @@ fn refuses_words(rt: HostRuntime) -> Result<(), Fail> {
         &["cs_main", "session", "Ada"],
         &["cs_main", "session", ""],
         &["cs_main", "session", "ada", "--admin"],
+        &["cs_main", "session", "ada", "--journal", "other.journal"],
         &["cs_main", "solve", "ada"],
+        &["cs_main", "solve", "--nodes", "-1"],
+        &["cs_main", "solve", "--nodes", "1000000001"],
+        &["cs_main", "verify"],
     ];
     for words in rows {
         let mut source = MemSource::new(b"BYE\n".to_vec(rt.alloc())?, Vec::new(rt.alloc()));
@@ -238,6 +242,115 @@ fn refuses_words(rt: HostRuntime) -> Result<(), Fail> {
         assert_eq!(rt; ran.output.as_slice(), b"".as_slice());
         assert_eq!(rt; ran.errors.as_slice(), b"words refused\n".as_slice());
     }
+    Ok(())
+}
+
+/// Solves a text with these words behind `solve`.
+fn solved(alloc: Global, words: &[&str], text: &[u8]) -> Result<Ran, NoMemory> {
+    let mut all = Vec::new(alloc);
+    all.extend_from_slice(&["cs_main", "solve"])?;
+    all.extend_from_slice(words)?;
+    let mut source = MemSource::new(Vec::from_slice(alloc, text)?, Vec::new(alloc));
+    run_over(alloc, all.as_slice(), &mut source, &[])
+}
+
+const TWO_ROWS: &[u8] = b"Maximize\n x + y\nSubject To\n 2 x + y <= 4\n x + 3 y <= 6\nEnd\n";
+
+const WHOLE_TWO_ROWS: &[u8] =
+    b"Maximize\n x + y\nSubject To\n 2 x + y <= 4\n x + 3 y <= 6\nGenerals\n x y\nEnd\n";
+
+const BEALE: &[u8] = b"Minimize
+ -0.75 x1 + 20 x2 - 0.5 x3 + 6 x4
+Subject To
+ c1: 0.25 x1 - 8 x2 - x3 + 9 x4 <= 0
+ c2: 0.5 x1 - 12 x2 - 0.5 x3 + 3 x4 <= 0
+ c3: x3 <= 1
+End
+";
+
+#[test]
+fn solves_models(rt: HostRuntime) -> Result<(), Fail> {
+    let rows: &[(&[u8], &[u8])] = &[
+        (
+            TWO_ROWS,
+            b"OUTCOME 2 2 1 18\nVALUE 14/5\nX 6/5\nX 8/5\nBOUND\nR 1 2/5\nR 2 1/5\nEND\n",
+        ),
+        (
+            WHOLE_TWO_ROWS,
+            b"OUTCOME 2 9 5 102\nVALUE 2\nX 1\nX 1\nSPLIT 1 1\nSPLIT 2 1\nBOUND\nU 1 1\nU 2 1\nBOUND\nR 2 1\nL 2 2\nBOUND\nR 1 1\nL 1 1\nEND\n",
+        ),
+        (
+            b"Minimize\n x\nSubject To\n 2 x = 1\nBinaries\n x\nEnd\n",
+            b"OUTCOME 3 5 3 75\nSPLIT 1 0\nFARKAS\nR 1 -1/3\nU 1 2/3\nFARKAS\nR 1 1\nL 1 2\nEND\n",
+        ),
+        (
+            b"Minimize\n x\nSubject To\n x + y >= 3\nBounds\n x <= 1\n y <= 1\nEnd\n",
+            b"OUTCOME 3 3 1 60\nFARKAS\nR 1 -1/3\nU 1 1/3\nU 2 1/3\nEND\n",
+        ),
+        (
+            b"Maximize\n x\nSubject To\nEnd\n",
+            b"OUTCOME 5 0 1 0\nRAY\nP 0\nD 1\nEND\n",
+        ),
+        (
+            b"Maximize\n x\nSubject To\nGenerals\n x\nEnd\n",
+            b"OUTCOME 4 0 1 0\nNONE\nEND\n",
+        ),
+        (
+            BEALE,
+            b"OUTCOME 2 6 1 120\nVALUE -5/4\nX 1\nX 0\nX 1\nX 0\nBOUND\nR 2 3/2\nR 3 5/4\nL 2 2\nL 4 21/2\nEND\n",
+        ),
+        (
+            b"Maximize\n x + y\nSubject To\n 1e30 x + y <= 1\n x + 1e30 y <= 1\nEnd\n",
+            b"OUTCOME 12 0 0 0\nWIDE 1 SUB 1000000000000000000000000000000 1/1000000000000000000000000000000\nNONE\nEND\n",
+        ),
+    ];
+    for (text, certificate) in rows {
+        assert_answers(&rt, &solved(rt.alloc(), &[], text)?, certificate);
+    }
+    Ok(())
+}
+
+#[test]
+fn solves_within_limits(rt: HostRuntime) -> Result<(), Fail> {
+    let rows: &[(&[&str], &[u8])] = &[
+        (
+            &["--nodes", "3"],
+            b"OUTCOME 8 6 3 72\nVALUE 2\nX 1\nX 1\nNONE\nEND\n",
+        ),
+        (&["--iterations=0"], b"OUTCOME 7 0 0 0\nNONE\nEND\n"),
+        (
+            &["--work=17", "--nodes=5"],
+            b"OUTCOME 16 1 0 9\nNONE\nEND\n",
+        ),
+    ];
+    for (words, certificate) in rows {
+        assert_answers(
+            &rt,
+            &solved(rt.alloc(), words, WHOLE_TWO_ROWS)?,
+            certificate,
+        );
+    }
+    Ok(())
+}
+
+#[test]
+fn tells_why_a_text_is_not_solved(rt: HostRuntime) -> Result<(), Fail> {
+    let ran = solved(
+        rt.alloc(),
+        &[],
+        b"Minimize\n x\nSubject To\n c: x+y >= 1\n d: 2x >= 1\nEnd\n",
+    )?;
+    assert_eq!(rt; ran.status, 1);
+    assert_eq!(rt; ran.output.as_slice(), b"".as_slice());
+    assert_eq!(rt;
+        ran.errors.as_slice(),
+        b"model: line 5 column 5 NUMBER\n".as_slice()
+    );
+    let long = vec![in rt.alloc(); b' '; 1_048_577]?;
+    let ran = solved(rt.alloc(), &[], long.as_slice())?;
+    assert_eq!(rt; ran.status, 7);
+    assert_eq!(rt; ran.output.as_slice(), b"".as_slice());
+    assert_eq!(rt; ran.errors.as_slice(), b"input too long\n".as_slice());
     Ok(())
 }
 

@@ -1,24 +1,26 @@
 //! The top call.
 
-ghost use Rattle.std.specs.Prelude.{◌≡◌, ◌≢◌, ◌↔◌, ◌≤◌, Err, IfOk, map, string_bytes};
+ghost use Rattle.std.specs.Prelude.{◌≡◌, ◌≢◌, ◌⊎◌, IfSome, None, map, string_bytes};
 ghost use Rattle.base_names.specs.Outside.{Rose};
-ghost use Rattle.cs_top.specs.CommandLine.{words_asked};
-ghost use Rattle.cs_top.specs.Run.{IsStatus, Reports, RunsAs, SessionSays, code_of};
+ghost use Rattle.cs_top.specs.Run.{Ends, IsStatus, RunsAs, SessionRuns};
+ghost use Rattle.cs_top.specs.Task.{task_asked};
 
-use crate::command_line::{Words, WordsFault, read_words};
 use crate::own_desk::OwnDesk;
 use crate::status::Status;
-use base_io::{LineReader, Sink, Source, put};
-use base_names::{Owner, Role, Seat};
+use crate::task::{Task, task_of};
+use base_io::{LineReader, Sink, Source};
+use base_names::{OrMemory, Owner, Role, Seat};
+use command_words::{WordsFault, read_words};
 use disk_model::Disk;
 use session::talk;
+use solve_command::solve;
 use std::alloc::Global;
 
-/// Does what the words ask for, and gives the status: 0 where the input was read to its end or to
-/// `BYE`, 2 where the words are refused, 3 and 4 where the source or the sink failed, 6 for want of
-/// memory, and 7 where a line passes 65,536 bytes or the input reaches 2^40.
+/// Does what the words ask for, and gives the status: 0 where all was done, 1 where the text to be solved is no model's,
+/// 2 where the words are refused, 3 and 4 where the source or the sink failed, 6 for want of memory, and 7 where the input, or a
+/// line of a session, is too long.
 ///
-/// `words` begins with the program's name, and `session NAME` is what is known. What goes wrong is told
+/// `words` begins with the program's name; `session NAME` and `solve` with its limits are what is known. What goes wrong is told
 /// in one line on `errs`; a failing write there changes nothing. The disk isn't touched.
 pub fn run<S: Source, K: Sink, E: Sink, D: Disk>(
     alloc: Global,
@@ -34,37 +36,60 @@ pub fn run<S: Source, K: Sink, E: Sink, D: Disk>(
     ensures same_disk { disk.new ≡ disk.old }
     ensures statuses { IsStatus result }
 
-    // What was taken and written, by the status.
-    ensures refused { (result ≡ 2) ↔ (words_asked (map string_bytes words.now.items) ≡ Err WordsFault.Refused) }
-    ensures untouched { result ≡ 2 → (S.left source.new ≡ S.left source.old) × (K.contents sink.new ≡ K.contents sink.old) }
-    ensures says { IfOk (words_asked (map string_bytes words.now.items)) (λ asked.
-        RunsAs asked result (S.left source.old) (S.left source.new) (K.contents sink.old) (K.contents sink.new)) }
+    // What was taken and written, by the status, and the line that tells why.
+    ensures ends { Ends (map string_bytes words.now.items) result (S.left source.old) (S.left source.new) (K.contents sink.old) (K.contents sink.new)
+        (E.faults errs.old) (E.faults errs.new) (E.contents errs.old) (E.contents errs.new) }
+    ensures refused { result ≡ 2 → task_asked (map string_bytes words.now.items) ≡ None }
+    ensures unknown { task_asked (map string_bytes words.now.items) ≡ None → (result ≡ 2) ⊎ (result ≡ 6) }
+    ensures untouched { task_asked (map string_bytes words.now.items) ≡ None → (S.left source.new ≡ S.left source.old) × (K.contents sink.new ≡ K.contents sink.old) }
 
     // A fault is told only where one came.
     ensures read_fault { result ≡ 3 → Rose (S.faults source.old) (S.faults source.new) }
     ensures write_fault { result ≡ 4 → Rose (K.faults sink.old) (K.faults sink.new) }
-
-    ensures errs { Reports result (E.faults errs.old) (E.faults errs.new) (E.contents errs.old) (E.contents errs.new) }
 {
-    let status = match read_words(words) {
-        Ok(asked) => answer(alloc, asked, source, sink),
-        Err(WordsFault::Refused) => Status::WordsRefused,
-    };
-    let _ = put(errs, status.line());
-    status.code()
+    let status = obey_words(alloc, words, source, sink);
+    status.report(alloc, errs).code()
+}
+
+/// Does what the words ask for.
+fn obey_words<S: Source, K: Sink>(
+    alloc: Global,
+    words: &Vec<String>,
+    source: &mut S,
+    sink: &mut K,
+) -> Status
+    ensures same_source { S.name source.new ≡ S.name source.old }
+    ensures same_sink { K.name sink.new ≡ K.name sink.old }
+    ensures runs { IfSome (task_asked (map string_bytes words.now.items)) (λ task.
+        RunsAs task result (S.left source.old) (S.left source.new) (K.contents sink.old) (K.contents sink.new)) }
+    ensures refused { result ≡ Status.WordsRefused → task_asked (map string_bytes words.now.items) ≡ None }
+    ensures unknown { task_asked (map string_bytes words.now.items) ≡ None → (result ≡ Status.WordsRefused) ⊎ (result ≡ Status.NoMemory) }
+    ensures untouched { task_asked (map string_bytes words.now.items) ≡ None → (S.left source.new ≡ S.left source.old) × (K.contents sink.new ≡ K.contents sink.old) }
+    ensures read_fault { result ≡ Status.ReadFault → Rose (S.faults source.old) (S.faults source.new) }
+    ensures write_fault { result ≡ Status.WriteFault → Rose (K.faults sink.old) (K.faults sink.new) }
+{
+    match &read_words(alloc, words) {
+        Ok(asked) => match task_of(asked) {
+            Some(task) => obey(alloc, &task, source, sink),
+            None => Status::WordsRefused,
+        },
+        Err(OrMemory::Fault(WordsFault::Refused)) => Status::WordsRefused,
+        Err(OrMemory::NoMemory) => Status::NoMemory,
+    }
 }
 
 /// Does what was asked for.
-fn answer<S: Source, K: Sink>(alloc: Global, asked: Words, source: &mut S, sink: &mut K) -> Status
+fn obey<S: Source, K: Sink>(alloc: Global, task: &Task, source: &mut S, sink: &mut K) -> Status
     ensures same_source { S.name source.new ≡ S.name source.old }
     ensures same_sink { K.name sink.new ≡ K.name sink.old }
-    ensures says { RunsAs asked (code_of result) (S.left source.old) (S.left source.new) (K.contents sink.old) (K.contents sink.new) }
+    ensures runs { RunsAs task.now result (S.left source.old) (S.left source.new) (K.contents sink.old) (K.contents sink.new) }
     ensures read_fault { result ≡ Status.ReadFault → Rose (S.faults source.old) (S.faults source.new) }
     ensures write_fault { result ≡ Status.WriteFault → Rose (K.faults sink.old) (K.faults sink.new) }
     ensures known { result ≢ Status.WordsRefused }
 {
-    match asked {
-        Words::Session(owner) => hold_session(alloc, owner, source, sink),
+    match task {
+        Task::Session(owner) => hold_session(alloc, *owner, source, sink),
+        Task::Solve(params) => Status::from(solve(alloc, params, source, sink)),
     }
 }
 
@@ -77,7 +102,7 @@ fn hold_session<S: Source, K: Sink>(
 ) -> Status
     ensures same_source { S.name source.new ≡ S.name source.old }
     ensures same_sink { K.name sink.new ≡ K.name sink.old }
-    ensures says { SessionSays (code_of result) owner (S.left source.old) (S.left source.new) (K.contents sink.old) (K.contents sink.new) }
+    ensures runs { SessionRuns owner result (S.left source.old) (S.left source.new) (K.contents sink.old) (K.contents sink.new) }
     ensures read_fault { result ≡ Status.ReadFault → Rose (S.faults source.old) (S.faults source.new) }
     ensures write_fault { result ≡ Status.WriteFault → Rose (K.faults sink.old) (K.faults sink.new) }
     ensures known { result ≢ Status.WordsRefused }
