@@ -70,7 +70,7 @@ unfolding goes_next
 fewer_left m p at goes s is =
     let before : turns_left p at ≡ p.iterations + p.nodes + 1 - goes.turns = turns_at m p at goes in
     let after : turns_left p (turn m p goes.search).progress ≡ p.iterations + p.nodes + 1 - (goes.turns + 1) =
-      turns_at m p (turn m p goes.search).progress (goes_next m p at goes s is) in
+    turns_at m p (turn m p goes.search).progress (goes_next m p at goes s is) in
     let below : goes.turns < p.iterations + p.nodes + 1 = below_limit m p at goes in
     omega (arith, before, after, below)
 

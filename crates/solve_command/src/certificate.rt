@@ -49,11 +49,7 @@ fn too_large() -> ModelFault
 }
 
 /// The end of a solve, by as many turns as it takes.
-fn outcome_of(
-    alloc: Global,
-    model: Model,
-    params: Params,
-) -> Result<(Outcome, Cert), NoMemory>
+fn outcome_of(alloc: Global, model: Model, params: Params) -> Result<(Outcome, Cert), NoMemory>
     requires { IsLawful model }
     ensures { IfOk result (λ ended. (ended.0 ≡ (plain model params).outcome) × (ended.1 ≡ (plain model params).cert)) }
 {

@@ -25,14 +25,14 @@ pub unreachable-requires : goal.unreachable-requires
 unreachable-requires c =
     let under = c.loop-solving.invariant in
     let end = under_end c.args.model c.args.params c.loop-solving.solving c.is_ended_by_a_turn.new.solving c.in_ok-is_ended_by_a_turn.field-0 under
-      (c.in_ok-is_ended_by_a_turn.ensures under.goes.search under.goes.going_on) c.if-not-branch.false in
+    (c.in_ok-is_ended_by_a_turn.ensures under.goes.search under.goes.going_on) c.if-not-branch.false in
     rw end.own at c.in-Err.ensures
 
 pub returns : goal.returns
 returns c =
     let under = c.loop-solving.invariant in
     let end = under_end c.args.model c.args.params c.loop-solving.solving c.is_ended_by_a_turn.new.solving c.in_ok-is_ended_by_a_turn.field-0 under
-      (c.in_ok-is_ended_by_a_turn.ensures under.goes.search under.goes.going_on) c.if-not-branch.false in
+    (c.in_ok-is_ended_by_a_turn.ensures under.goes.search under.goes.going_on) c.if-not-branch.false in
     let done = rw end.own at c.in-Ok.ensures in (
       ap (λ parts. parts.0) c.parts.ensures ∙ done.0 ∙ sym (ap (λ (at : Progress). (cut_off at).outcome) end.plain_one),
       ap (λ parts. parts.1) c.parts.ensures ∙ done.1 ∙ sym (ap (λ (at : Progress). (cut_off at).cert) end.plain_one),
