@@ -1,3 +1,4 @@
 pub mod Scenes
 mod WorkedBatches
 mod WorkedJobs
+mod WorkedLimits

@@ -1,5 +1,5 @@
 -- Words for histories at hand: sites, seats, deeds with what is placed and answered.
-use Rattle.std.proofs.Common.{◌≡◌, ℕ, [], ◌∷◌, map, List, None, codes}
+use Rattle.std.proofs.Common.{◌≡◌, ℕ, Bool, true, ◌&&◌, [], ◌∷◌, map, List, None, codes}
 use Rattle.base_names.specs.declared.id.BatchId.{BatchId}
 use Rattle.base_names.specs.declared.node.NodeNo.{NodeNo}
 use Rattle.base_names.specs.declared.node.Placed.{Placed}
@@ -10,15 +10,18 @@ use Rattle.base_names.specs.declared.seat.Seat.{Seat}
 use Rattle.frac128.specs.Fraction.{zero_value}
 use Rattle.model_data.specs.Params.{usual_params}
 use Rattle.model_data.specs.declared.batch.BatchBody.{BatchBody}
+use Rattle.model_data.specs.declared.batch.BatchRecord.{BatchRecord}
 use Rattle.model_data.specs.declared.batch.BatchResult.{BatchResult}
 use Rattle.model_data.specs.declared.model.Direction.TheVariants.{Minimize}
 use Rattle.table_defs.specs.Names.{Owner}
-use Rattle.table_defs.specs.Table.{no_rows}
+use Rattle.table_defs.specs.Table.{after, no_rows}
 use Rattle.cluster_defs.specs.Asks.{Ask}
 use Rattle.cluster_defs.specs.Cluster.{Cluster}
 use Rattle.cluster_defs.specs.Deeds.{Asked, Deed, Finished, FinishReply, Left, Took}
+use Rattle.cluster_defs.specs.Ends.{end_of}
 use Rattle.cluster_defs.specs.Entries as answers
 use Rattle.cluster_defs.specs.Entries.{Entry, EntryReply}
+use Rattle.cluster_defs.specs.Legal.{is_work, next_work}
 use Rattle.cluster_defs.specs.Opened.{opened}
 use Rattle.cluster_defs.specs.Replies as tells
 use Rattle.cluster_defs.specs.Replies.{Reply}
@@ -34,9 +37,13 @@ found = record { outcome = record { status = 2; pivots = 0; nodes = 1; work = 0;
 abbrev pub body : BatchBody
 body = record { model = record { direction = Minimize; constant = zero_value; vars = []; rows = [] }; params = usual_params }
 
--- each record takes 100 bytes, and each model 50
+-- where each record takes 100 bytes, and each model 50
 abbrev pub limited : ℕ → ℕ → ℕ → Limits → Site
 limited nodes limit hard limits = record { setup = record { nodes = nodes; limit = limit; hard = hard; limits = limits }; record_bytes = λ r. 100; model_bytes = λ m. 50; plain = λ b. found }
+
+-- one node, where each record takes so many bytes, and each model so many
+abbrev pub sized : ℕ → ℕ → Limits → Site
+sized record_size model_size limits = record (limited 1 2 0 limits) { record_bytes = λ r. record_size; model_bytes = λ m. model_size }
 
 abbrev pub site : ℕ → ℕ → ℕ → Site
 site nodes limit hard = limited nodes limit hard record { commands = 65536; bytes = 8388608; journal = 1000000000 }
@@ -92,14 +99,31 @@ left id attempt ps r = record { deed = Left id attempt; placed = ps; reply = ans
 abbrev pub entry : Line → Entry
 entry l = record { deed = l.deed; placed = l.placed; reply = l.reply; before = 0; after = 0 }
 
--- from an empty table
-abbrev pub IsTold : Site → List Line → Type 0
-IsTold k lines = told k (opened k no_rows 8) (map (λ l. l.deed) lines) ≡ map (λ l. record { placed = l.placed; reply = l.reply }) lines
+-- A worker takes the attempt that it gets.
+abbrev pub is_in_turn : Cluster → Deed → Bool
+is_in_turn c (Took worker id attempt) = is_work id attempt (next_work c)
+is_in_turn c deed = true
 
-abbrev pub behind_from : Site → Cluster → List Deed → Cluster
-behind_from k c [] = c
-behind_from k c (deed ∷ deeds) = behind_from k (step k c deed well).next deeds
+abbrev pub are_in_turn : Site → Cluster → List Deed → Bool
+are_in_turn k c [] = true
+are_in_turn k c (deed ∷ deeds) = is_in_turn c deed && are_in_turn k (step k c deed well).next deeds
+
+-- these lines, from a cluster on
+abbrev pub AreToldFrom : Site → Cluster → List Line → Type 0
+AreToldFrom k c lines = (told k c (map (λ l. l.deed) lines) ≡ map (λ l. record { placed = l.placed; reply = l.reply }) lines) × (are_in_turn k c (map (λ l. l.deed) lines) ≡ true)
+
+-- from an empty table
+abbrev pub AreTold : Site → List Line → Type 0
+AreTold k lines = AreToldFrom k (opened k no_rows 8) lines
+
+-- from these records
+abbrev pub AreToldBehind : Site → List BatchRecord → List Line → Type 0
+AreToldBehind k rs lines = AreToldFrom k (opened k (after rs no_rows) (end_of k rs)) lines
+
+abbrev pub by_deeds : Site → Cluster → List Deed → Cluster
+by_deeds k c [] = c
+by_deeds k c (deed ∷ deeds) = by_deeds k (step k c deed well).next deeds
 
 -- the cluster behind some deeds
-abbrev pub behind : Site → List Deed → Cluster
-behind k deeds = behind_from k (opened k no_rows 8) deeds
+abbrev pub cluster_by : Site → List Deed → Cluster
+cluster_by k deeds = by_deeds k (opened k no_rows 8) deeds

@@ -30,8 +30,8 @@ use Rattle.cluster_defs.specs.Waiters.{is_node, is_role}
 abbrev pub most_charges : ℕ
 most_charges = 33554432
 
-abbrev pub is_full : Site → Usage → Bool
-is_full k usage = nat_le k.setup.limits.commands usage.entries || nat_le most_charges usage.charges
+abbrev pub is_at_limit : Site → Usage → Bool
+is_at_limit k usage = nat_le k.setup.limits.commands usage.entries || nat_le most_charges usage.charges
 
 -- A seat may always leave the job that it holds, and is not counted for it.
 abbrev pub is_free : List Job → Seat → Ask → Bool
@@ -39,7 +39,7 @@ is_free jobs seat asks.Leave = is_some (job_of seat jobs)
 is_free jobs seat ask = false
 
 abbrev pub commands_refusal : Site → List Usage → List Job → Seat → Ask → Option Refusal
-commands_refusal k usage jobs seat ask = unless (is_free jobs seat ask || not (is_full k (usage_of seat.owner usage))) (OWNERFULL Commands)
+commands_refusal k usage jobs seat ask = unless (is_free jobs seat ask || not (is_at_limit k (usage_of seat.owner usage))) (OWNERFULL Commands)
 
 -- ---- every other one, in the order in which they are tried
 

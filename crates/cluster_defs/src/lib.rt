@@ -14,7 +14,7 @@
 //! - `Part`, `Reading`, `Own`, `OwnHistory`: what is one owner's, and the replies that follow from that alone.
 //! - `Journal`, `Life`, `Plain`, `Room`: records through openings and stops.
 //!
-//! Histories at hand, with what is placed and answered line by line, are in `proofs/WorkedJobs.antt` and `WorkedBatches.antt`:
+//! Histories at hand, with what is placed and answered line by line, are in `proofs/WorkedJobs.antt`, `WorkedBatches.antt` and `WorkedLimits.antt`:
 //! they fix these definitions value for value. What holds in every history is said in the crate `cluster_laws`.
 //! `docs/CLUSTER.md` says all of it in plain words.
 #![tactic(auto)]

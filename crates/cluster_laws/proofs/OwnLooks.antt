@@ -21,7 +21,7 @@ use Rattle.cluster_defs.specs.Looks.{cut, job_cut}
 use Rattle.cluster_defs.specs.Own.{own_refusal}
 use Rattle.cluster_defs.specs.Part.{givens_of, jobs_of, part_of, usages_of}
 use Rattle.cluster_defs.specs.Reading.{is_admins, shared_refusal}
-use Rattle.cluster_defs.specs.Refusals.{alive_refusal, ask_refusal, batch_refusal, bytes_refusal, commands_refusal, disk_refusal, first_of, is_free, is_full, job_refusal, may_retry, most_number, need, numbers_refusal, role_refusal, room_refusal, seen_row, state_refusal}
+use Rattle.cluster_defs.specs.Refusals.{alive_refusal, ask_refusal, batch_refusal, bytes_refusal, commands_refusal, disk_refusal, first_of, is_free, is_at_limit, job_refusal, may_retry, most_number, need, numbers_refusal, role_refusal, room_refusal, seen_row, state_refusal}
 use Rattle.cluster_defs.specs.Site.{Site}
 use Rattle.cluster_defs.specs.Step.{still_open}
 use Rattle.cluster_defs.specs.Waiters.{is_role, is_seat, owner_of}
@@ -62,7 +62,7 @@ free_own u seat asks.Leave jobs own = ap is_some (own_job u seat jobs own)
 free_own u seat ask jobs own = refl
 
 pub commands_own : (u : Owner) (k : Site) (seat : Seat) (ask : Ask) (jobs : List Job) (usage : List Usage) → is_owner u seat.owner ≡ true → commands_refusal k (usages_of u usage) (jobs_of u jobs) seat ask ≡ commands_refusal k usage jobs seat ask
-commands_own u k seat ask jobs usage own = ap₂ (λ (free : Bool) (x : Usage). unless (free || not (is_full k x)) (OWNERFULL Commands)) (free_own u seat ask jobs own) (own_usage u seat.owner usage own)
+commands_own u k seat ask jobs usage own = ap₂ (λ (free : Bool) (x : Usage). unless (free || not (is_at_limit k x)) (OWNERFULL Commands)) (free_own u seat ask jobs own) (own_usage u seat.owner usage own)
 
 state_own : (u : Owner) (seat : Seat) (ask : Ask) (jobs : List Job) → is_owner u seat.owner ≡ true → state_refusal (jobs_of u jobs) seat ask ≡ state_refusal jobs seat ask
 state_own u seat (asks.Job priority) jobs own = ap (λ (job : Option Job). unless (is_none job) STATE) (own_job u seat jobs own)
