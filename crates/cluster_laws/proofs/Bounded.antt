@@ -1,6 +1,6 @@
 -- Over a legal history no sum passes its bound.
-use Rattle.std.proofs.Common.{◌≡◌, refl, sym, ap, ◌∙◌, subst, ℕ, zero, suc, ◌+◌, ◌≤◌, ◌<◌, ◌^◌, List, [], ◌∷◌, ◌++◌, length, Option, Some, None, arith}
-use Rattle.std.specs.Prelude.{option_to_list, sum_by}
+use Rattle.std.proofs.Common.{◌≡◌, refl, sym, ap, ◌∙◌, subst, ℕ, zero, suc, ◌+◌, ◌≤◌, ◌<◌, ◌^◌, Bool, true, false, List, [], ◌∷◌, ◌++◌, length, Option, Some, None, arith}
+use Rattle.std.specs.Prelude.{cond, filter, option_to_list, sum_by}
 use Rattle.std.proofs.lemmas.List.{length-map}
 use Rattle.std.proofs.lemmas.List.Sums.{sum_by-cons}
 use Rattle.base_names.specs.declared.node.NodeNo.{NodeNo}
@@ -23,7 +23,7 @@ use Rattle.cluster_defs.specs.Room.{AreShort, Fits}
 use Rattle.cluster_defs.specs.Site.{Site}
 use Rattle.cluster_defs.specs.Step.{step, with_returned}
 use Rattle.cluster_defs.specs.Waiters.{is_node}
-use Rattle.cluster_laws.specs.Bounds.{AreBounded, AreSmall, AreWritable, IsLawful, IsSmall, IsWritten, all_bounds, most_entries}
+use Rattle.cluster_laws.specs.Bounds.{AreBounded, AreSmall, AreWritable, IsLawful, IsSmall, IsWritten, all_bounds, asks_for_job, jobs_asked, most_jobs}
 use Rattle.cluster_laws.specs.Places.{Every}
 use Rattle.cluster_laws.specs.Sound.{IsSound}
 use Rattle.cluster_laws.proofs.Charged.{IsLight, answer_charged}
@@ -34,7 +34,7 @@ use Rattle.cluster_laws.proofs.Room.{event_stays}
 use Rattle.cluster_laws.proofs.Small.{IsSmallEvent, after_small, event_small, greatest_small, no_rows_small, record_keeps_small}
 use Rattle.cluster_laws.proofs.SoundOpenings.{opened_is_good}
 use Rattle.cluster_laws.proofs.SoundSteps.{step_is_good}
-use Rattle.cluster_laws.proofs.Uses.{AreCounts, all_long, step_counts, step_jobs}
+use Rattle.cluster_laws.proofs.Uses.{AreCounts, all_long, asked_in, step_counts, step_jobs}
 use Rattle.cluster_laws.proofs.Weights.{kept_weighs, needs, record_weighs, rows_weigh, weight}
 
 -- ---- what holds behind every entry
@@ -88,11 +88,11 @@ event_keeps_small k (Some was_opened) c d tells small h = absurd tells
 as_many : (ms ns : List Node) → numbers_of ms ≡ numbers_of ns → length ms ≡ length ns
 as_many ms ns e = sym (length-map ms (λ n. n.node.0)) ∙ (ap length e ∙ length-map ns (λ n. n.node.0))
 
-light_of : (k : Site) (n : ℕ) (c : Cluster) → IsLawful k.setup → n ≤ most_entries → Holds k n c → IsLight k c
+light_of : (k : Site) (n : ℕ) (c : Cluster) → IsLawful k.setup → n ≤ most_jobs → Holds k n c → IsLight k c
 light_of k n c lawful le h = record { weighs = omega (arith, h.weighs, h.fits, lawful.journal); jobs = omega (arith, h.jobs, le); nodes = omega (arith, h.nodes, lawful.nodes) }
 
-step_holds : (k : Site) (n faults : ℕ) (c : Cluster) (e : Entry) (more : List Event) → IsLawful k.setup → IsWritten k → n ≤ most_entries → IsStep k c faults e → AreWritable k (e ∷ []) → AreShort k (option_to_list (event_in c e.deed e.reply) ++ more) → Holds k n c
-    → Holds k (n + 1) (step k c e.deed (faults_of e)).next × AreShort k more
+step_holds : (k : Site) (n faults : ℕ) (c : Cluster) (e : Entry) (more : List Event) → IsLawful k.setup → IsWritten k → n ≤ most_jobs → IsStep k c faults e → AreWritable k (e ∷ []) → AreShort k (option_to_list (event_in c e.deed e.reply) ++ more) → Holds k n c
+    → Holds k (n + asked_in e.deed) (step k c e.deed (faults_of e)).next × AreShort k more
 step_holds k n faults c e more lawful written le legal can short h =
     let next = (step k c e.deed (faults_of e)).next in
     let event = event_in c e.deed e.reply in
@@ -114,13 +114,22 @@ step_holds k n faults c e more lawful written le legal can short h =
       s.1,
     )
 
-history_holds : (k : Site) (H : List Entry) (N : List GivenBack) (n faults m : ℕ) (c : Cluster) → IsLawful k.setup → IsWritten k → IsLegalFrom k n faults c N H → AreShort k (events_from k n c N H) → AreWritable k H → n + length H ≤ m → m ≤ most_entries → Holds k n c → Holds k m (cluster_from k n c N H)
-history_holds k [] N n faults m c lawful written legal short can le most h = longer k n m _ (omega (arith, le)) (back_holds k n (back_at n N) c h)
-history_holds k (e ∷ es) N n faults m c lawful written legal short can le most h =
+one_asked : (e : Entry) (es : List Entry) (b : Bool) → length (cond b (e ∷ filter (λ x. asks_for_job x.deed) es) (filter (λ x. asks_for_job x.deed) es)) ≡ cond b 1 0 + jobs_asked es
+one_asked e es true = omega arith
+one_asked e es false = omega arith
+
+pub asked_first : (e : Entry) (es : List Entry) → jobs_asked (e ∷ es) ≡ asked_in e.deed + jobs_asked es
+asked_first e es = one_asked e es (asks_for_job e.deed)
+
+-- behind so many entries, of which so many asked for a job
+history_holds : (k : Site) (H : List Entry) (N : List GivenBack) (n faults jobs m : ℕ) (c : Cluster) → IsLawful k.setup → IsWritten k → IsLegalFrom k n faults c N H → AreShort k (events_from k n c N H) → AreWritable k H → jobs + jobs_asked H ≤ m → m ≤ most_jobs → Holds k jobs c → Holds k m (cluster_from k n c N H)
+history_holds k [] N n faults jobs m c lawful written legal short can le most h = longer k jobs m _ (omega (arith, le)) (back_holds k jobs (back_at n N) c h)
+history_holds k (e ∷ es) N n faults jobs m c lawful written legal short can le most h =
     let d = given_back (back_at n N) c in
     let next = (step k d e.deed (faults_of e)).next in
-    let s = step_holds k n faults d e (events_from k (suc n) next N es) lawful written (omega (arith, le, most)) legal.1 (can.0, tt) short (back_holds k n (back_at n N) c h) in
-    history_holds k es N (suc n) e.after m next lawful written legal.2 s.1 can.1 (omega (arith, le)) most (longer k (n + 1) (suc n) next (omega arith) s.0)
+    let a = asked_first e es in
+    let s = step_holds k jobs faults d e (events_from k (suc n) next N es) lawful written (omega (arith, le, most)) legal.1 (can.0, tt) short (back_holds k jobs (back_at n N) c h) in
+    history_holds k es N (suc n) e.after (jobs + asked_in e.deed) m next lawful written legal.2 s.1 can.1 (omega (arith, le, a)) most s.0
 
 -- ---- an opening
 
@@ -160,9 +169,9 @@ opened_holds k rs written taken small fits =
 runs_few : (node : NodeNo) (c : Cluster) → running node c ≤ length c.jobs + length c.placed
 runs_few node c = let a = fewer (runs_at node) c.jobs in let b = fewer (λ (r : Running). is_node node r.node) c.placed in omega (arith, a, b)
 
-bounded_by : (k : Site) (c : Cluster) → IsLawful k.setup → IsWritten k → Holds k most_entries c → AreBounded k c
+bounded_by : (k : Site) (c : Cluster) → IsLawful k.setup → IsWritten k → Holds k most_jobs c → AreBounded k c
 bounded_by k c lawful written h =
-    let light = light_of k most_entries c lawful (omega arith) h in
+    let light = light_of k most_jobs c lawful (omega arith) h in
     let rows = rows_weigh k c.table in
     let placed = placed_fewer c h.good.sound in
     record {
@@ -180,9 +189,9 @@ bounded_by k c lawful written h =
     }
 
 pub behind_bounded : (k : Site) (rs : List BatchRecord) (faults : ℕ) (H : List Entry) (N : List GivenBack) → IsLawful k.setup → IsWritten k → AreTaken rs no_rows → Every IsSmall rs → IsLegal k (after rs no_rows) (end_of k rs) faults H N
-    → Fits k (opened k (after rs no_rows) (end_of k rs)) → AreShort k (events_from k 0 (opened k (after rs no_rows) (end_of k rs)) N H) → AreWritable k H → length H ≤ most_entries → AreBounded k (cluster_behind k (after rs no_rows) (end_of k rs) H N)
+    → Fits k (opened k (after rs no_rows) (end_of k rs)) → AreShort k (events_from k 0 (opened k (after rs no_rows) (end_of k rs)) N H) → AreWritable k H → jobs_asked H ≤ most_jobs → AreBounded k (cluster_behind k (after rs no_rows) (end_of k rs) H N)
 behind_bounded k rs faults H N lawful written taken small legal fits short can le =
-    bounded_by k (cluster_behind k (after rs no_rows) (end_of k rs) H N) lawful written (history_holds k H N 0 faults most_entries (opened k (after rs no_rows) (end_of k rs)) lawful written legal short can (omega (arith, le)) (omega arith) (opened_holds k rs written taken small fits))
+    bounded_by k (cluster_behind k (after rs no_rows) (end_of k rs) H N) lawful written (history_holds k H N 0 faults 0 most_jobs (opened k (after rs no_rows) (end_of k rs)) lawful written legal short can (omega (arith, le)) (omega arith) (opened_holds k rs written taken small fits))
 
 pub bounds_fit : Every (λ (bound : ℕ). bound < 2 ^ 64) all_bounds
 bounds_fit = (omega arith, (omega arith, (omega arith, (omega arith, (omega arith, (omega arith, (omega arith, tt)))))))

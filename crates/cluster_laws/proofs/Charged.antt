@@ -24,7 +24,7 @@ use Rattle.cluster_defs.specs.Listing.{attempt_line, by_id, by_seat, is_before, 
 use Rattle.cluster_defs.specs.Replies as tells
 use Rattle.cluster_defs.specs.Replies.{Reply}
 use Rattle.cluster_defs.specs.Site.{Site}
-use Rattle.cluster_laws.specs.Bounds.{CanBeWritten, IsWritten, most_charge, most_entries, most_journal, most_nodes, most_record, result_bytes, row_bytes}
+use Rattle.cluster_laws.specs.Bounds.{CanBeWritten, IsWritten, most_charge, most_jobs, most_journal, most_nodes, most_record, result_bytes, row_bytes}
 use Rattle.cluster_laws.proofs.Weights.{rows_weigh, weight}
 
 -- ---- lists are as long as what they list
@@ -108,7 +108,7 @@ status_free k id (Some row) = refl
 -- what is to be known of the cluster
 pub record IsLight (k : Site) (c : Cluster) : Type 0 where
   pub weighs : weight k c.table ≤ most_journal
-  pub jobs : length c.jobs ≤ most_entries
+  pub jobs : length c.jobs ≤ most_jobs
   pub nodes : length c.nodes ≤ most_nodes
 
 none_charged : (n : ℕ) → n ≡ 0 → n ≤ most_charge

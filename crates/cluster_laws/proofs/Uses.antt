@@ -34,7 +34,7 @@ use Rattle.cluster_defs.specs.Replies.{Reply}
 use Rattle.cluster_defs.specs.Site.{Site}
 use Rattle.cluster_defs.specs.Step.{asked_with, count_reply, step, still_open, with_result, with_returned, with_taken, within_limit}
 use Rattle.cluster_defs.specs.Waiters.{is_job, is_seat}
-use Rattle.cluster_laws.specs.Bounds.{CanBeWritten, IsWritable, IsWritten, most_charge}
+use Rattle.cluster_laws.specs.Bounds.{CanBeWritten, IsWritable, IsWritten, asks_for_job, most_charge}
 use Rattle.cluster_laws.proofs.Charged.{IsLight, answer_charged, refused_charged}
 use Rattle.cluster_laws.proofs.Counts.{counted_has, finish_within, left_within, none_of_both, not_full, put_else, put_same}
 use Rattle.cluster_laws.proofs.Lists.{find_head, head_of}
@@ -54,15 +54,19 @@ all_long (p ∷ ps) jobs = all_long ps (placed_jobs p jobs) ∙ placed_long p.wa
 changed_long : (test : Job → Bool) (f : Job → Job) (jobs : List Job) → length (changed test f jobs) ≡ length jobs
 changed_long test f jobs = length-map jobs (λ j. if test j then f j else j)
 
-polled : (lost : Bool) (seat : Seat) (jobs : List Job) → length (if lost then without_job seat jobs else jobs) ≤ length jobs + 1
+-- how many jobs a deed asks for
+abbrev pub asked_in : Deed → ℕ
+asked_in d = if asks_for_job d then 1 else 0
+
+polled : (lost : Bool) (seat : Seat) (jobs : List Job) → length (if lost then without_job seat jobs else jobs) ≤ length jobs + 0
 polled true seat jobs = let h = fewer (λ (j : Job). not (is_seat seat j.seat)) jobs in omega (arith, h)
 polled false seat jobs = omega arith
 
-marked_long : (found : Option Job) (jobs : List Job) → length (marked_jobs found jobs) ≤ length jobs + 1
+marked_long : (found : Option Job) (jobs : List Job) → length (marked_jobs found jobs) ≤ length jobs + 0
 marked_long None jobs = omega arith
 marked_long (Some job) jobs = let h = changed_long (λ (j : Job). is_job (id_of job) (id_of j)) (λ (j : Job). record j { marked = true }) jobs in omega (arith, h)
 
-one_job : (given : List Given) (seat : Seat) (ask : Ask) (jobs : List Job) → length (jobs_after given seat ask jobs) ≤ length jobs + 1
+one_job : (given : List Given) (seat : Seat) (ask : Ask) (jobs : List Job) → length (jobs_after given seat ask jobs) ≤ length jobs + asked_in (Asked seat ask)
 one_job given seat (asks.Job priority) jobs = let h = length-append jobs (new_job given seat priority ∷ []) in omega (arith, h)
 one_job given seat asks.Poll jobs = polled (is_lost (job_of seat jobs)) seat jobs
 one_job given seat asks.Leave jobs = let h = fewer (λ (j : Job). not (is_seat seat j.seat)) jobs in omega (arith, h)
@@ -76,21 +80,24 @@ settled_long c n h = let e = all_long (place c) c.jobs in omega (arith, e, h)
 more : (m n : ℕ) → m ≤ n → m ≤ n + 1
 more m n h = omega (arith, h)
 
-asked_jobs : (k : Site) (c : Cluster) (seat : Seat) (ask : Ask) (x0 x : Option Refusal) → length (within_limit c x0 (asked_with k c seat ask x)).next.jobs ≤ length c.jobs + 1
-asked_jobs k c seat ask (Some r) x = omega arith
-asked_jobs k c seat ask None (Some r) = settled_long (record c { usage = count_reply k c seat ask (tells.Refused r) }) _ (omega arith)
+no_fewer : (m n : ℕ) → m ≤ m + n
+no_fewer m n = omega arith
+
+asked_jobs : (k : Site) (c : Cluster) (seat : Seat) (ask : Ask) (x0 x : Option Refusal) → length (within_limit c x0 (asked_with k c seat ask x)).next.jobs ≤ length c.jobs + asked_in (Asked seat ask)
+asked_jobs k c seat ask (Some r) x = no_fewer _ _
+asked_jobs k c seat ask None (Some r) = settled_long (record c { usage = count_reply k c seat ask (tells.Refused r) }) _ (no_fewer _ _)
 asked_jobs k c seat ask None None = settled_long (done k c seat ask) _ (one_job c.given seat ask c.jobs)
 
-finish_jobs : (k : Site) (c : Cluster) (id : BatchId) (n : ℕ) (result : BatchResult) (f : Faults) (o w : Bool) → still_open n (row_of id c.table) ≡ o → nat_le f.after f.before ≡ w → length (step k c (Finished id n result) f).next.jobs ≤ length c.jobs + 1
+finish_jobs : (k : Site) (c : Cluster) (id : BatchId) (n : ℕ) (result : BatchResult) (f : Faults) (o w : Bool) → still_open n (row_of id c.table) ≡ o → nat_le f.after f.before ≡ w → length (step k c (Finished id n result) f).next.jobs ≤ length c.jobs + 0
 finish_jobs k c id n result f false w h g = rw h (settled_long c _ (omega arith))
 finish_jobs k c id n result f true true h g = rw (h, g) (settled_long (with_result k c id n result) _ (omega arith))
 finish_jobs k c id n result f true false h g = rw (h, g) (settled_long (with_returned c id n) _ (omega arith))
 
-left_jobs : (k : Site) (c : Cluster) (id : BatchId) (n : ℕ) (f : Faults) (o : Bool) → still_open n (row_of id c.table) ≡ o → length (step k c (Left id n) f).next.jobs ≤ length c.jobs + 1
+left_jobs : (k : Site) (c : Cluster) (id : BatchId) (n : ℕ) (f : Faults) (o : Bool) → still_open n (row_of id c.table) ≡ o → length (step k c (Left id n) f).next.jobs ≤ length c.jobs + 0
 left_jobs k c id n f false h = rw h (settled_long c _ (omega arith))
 left_jobs k c id n f true h = rw h (settled_long (with_returned c id n) _ (omega arith))
 
-pub step_jobs : (k : Site) (c : Cluster) (d : Deed) (f : Faults) → length (step k c d f).next.jobs ≤ length c.jobs + 1
+pub step_jobs : (k : Site) (c : Cluster) (d : Deed) (f : Faults) → length (step k c d f).next.jobs ≤ length c.jobs + asked_in d
 step_jobs k c (Asked seat ask) f = asked_jobs k c seat ask (commands_refusal k c.usage c.jobs seat ask) (ask_refusal k c seat ask f)
 step_jobs k c (Took worker id n) f = settled_long (with_taken c id n) _ (omega arith)
 step_jobs k c (Finished id n result) f = finish_jobs k c id n result f (still_open n (row_of id c.table)) (nat_le f.after f.before) refl refl
@@ -116,7 +123,7 @@ rise_by : (u o : Owner) (bytes : ℕ) (all : List Usage) (n : ℕ) (b : Bool) �
 rise_by u o bytes all n true is own h = let e = owner_is u o is in counted_has (λ x. n ≤ x.entries) u o false bytes all (λ free. more n _ (own o refl e)) h
 rise_by u o bytes all n false is own h = let e : usage_of u (counted o false bytes all) ≡ usage_of u all = put_else u o (record { owner = o; entries = (usage_of o all).entries + 1; charges = (usage_of o all).charges + bytes }) all refl is in subst (λ (x : Usage). n ≤ x.entries) (sym e) h
 
-entries_rise : (u o : Owner) (free : Bool) (bytes : ℕ) (all : List Usage) (n : ℕ) → ((v : Owner) → v ≡ o → u ≡ v → n ≤ (usage_of o all).entries) → n ≤ (usage_of u all).entries → n ≤ (usage_of u (counted o free bytes all)).entries
+pub entries_rise : (u o : Owner) (free : Bool) (bytes : ℕ) (all : List Usage) (n : ℕ) → ((v : Owner) → v ≡ o → u ≡ v → n ≤ (usage_of o all).entries) → n ≤ (usage_of u all).entries → n ≤ (usage_of u (counted o free bytes all)).entries
 entries_rise u o true bytes all n own h = h
 entries_rise u o false bytes all n own h = rise_by u o bytes all n (is_owner u o) refl own h
 

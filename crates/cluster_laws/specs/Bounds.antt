@@ -1,5 +1,5 @@
 -- Which limits are lawful, and what every sum of a legal history is bounded by then.
-use Rattle.std.specs.Prelude.{◌≡◌, ℕ, ◌+◌, ◌*◌, ◌≤◌, ⊤, List, [], ◌∷◌, length, Option, Some, None}
+use Rattle.std.specs.Prelude.{◌≡◌, ℕ, ◌+◌, ◌*◌, ◌≤◌, ⊤, Bool, true, false, List, [], ◌∷◌, filter, length, Option, Some, None}
 use Rattle.base_names.specs.declared.id.BatchId.{BatchId}
 use Rattle.base_names.specs.declared.node.NodeNo.{NodeNo}
 use Rattle.base_names.specs.declared.node.Placed.{Placed}
@@ -20,7 +20,7 @@ use Rattle.cluster_defs.specs.Deeds.{Asked, Deed}
 use Rattle.cluster_defs.specs.Entries.{Entry}
 use Rattle.cluster_defs.specs.Refusals.{kept_bytes, most_charges, most_number, need, reserve, reserved}
 use Rattle.cluster_defs.specs.Site.{Setup, Site}
-use Rattle.cluster_laws.specs.Places.{Every}
+use Rattle.cluster_laws.specs.Places.{Every, IsIn}
 
 -- ---- what is lawful
 
@@ -41,9 +41,13 @@ most_limit = 1000
 abbrev pub most_record : ℕ
 most_record = 4294967295
 
--- More entries than any program comes to between two openings.
-abbrev pub most_entries : ℕ
-most_entries = 281474976710656
+-- how often a job may be asked for between two openings
+abbrev pub most_jobs : ℕ
+most_jobs = 281474976710656
+
+-- So many owners ask no more often than that, since each such command is counted.
+abbrev pub most_owners : ℕ
+most_owners = 65536
 
 -- The limit on the bytes that an owner keeps needs no bound, since the journal has them all.
 pub record IsLawful (s : Setup) : Type 0 where
@@ -67,6 +71,24 @@ IsWritable k deed = ⊤
 
 abbrev pub AreWritable : Site → List Entry → Type 0
 AreWritable k H = Every (λ (e : Entry). IsWritable k e.deed) H
+
+-- ---- jobs
+
+abbrev pub asks_for_job : Deed → Bool
+asks_for_job (Asked seat (asks.Job priority)) = true
+asks_for_job deed = false
+
+-- how often a job is asked for, refused or not
+abbrev pub jobs_asked : List Entry → ℕ
+jobs_asked H = length (filter (λ e. asks_for_job e.deed) H)
+
+-- Whoever asks is one of these owners.
+abbrev pub IsAmong : List Owner → Deed → Type 0
+IsAmong owners (Asked seat ask) = IsIn seat.owner owners
+IsAmong owners deed = ⊤
+
+abbrev pub AreAmong : List Owner → List Entry → Type 0
+AreAmong owners H = Every (λ (e : Entry). IsAmong owners e.deed) H
 
 -- ---- numbers
 
@@ -108,10 +130,10 @@ most_need = most_journal + 5 + most_record + reserved
 
 -- what all runs on one node comes to at most
 abbrev pub most_running : ℕ
-most_running = most_entries + most_journal
+most_running = most_jobs + most_journal
 
 abbrev pub most_lines : ℕ
-most_lines = 128 * (most_entries + most_journal)
+most_lines = 128 * (most_jobs + most_journal)
 
 pub record AreBounded (k : Site) (c : Cluster) : Type 0 where
   -- an owner's counted entries, and what they are charged with; what the next command is charged with
