@@ -20,6 +20,7 @@ pub mod OwnEffects
 pub mod OwnLooks
 pub mod OwnPlaces
 pub mod OwnRoom
+pub mod OwnRows
 pub mod Owners
 pub mod Pigeons
 pub mod Records

@@ -128,27 +128,27 @@ pub behind_stays : (k : Site) (rs : List BatchRecord) (end faults : ℕ) (H : Li
 behind_stays k rs end faults H N taken legal fits short =
     let o = keyed_after rs taken in (history_stays k H N 0 faults (opened k (after rs no_rows) end) legal (opened_is_good k (after rs no_rows) end o) o fits short).fits
 
--- the table behind a history is ordered
-event_ordered : (k : Site) (event : Option Event) (c d : Cluster) → Tells k event c d → IsKeyed c.table → IsKeyed d.table
-event_ordered k None c d tells o = subst IsKeyed (sym tells.0) o
-event_ordered k (Some (was_kept r)) c d tells o = subst IsKeyed (sym tells.2) (keyed_kept r c.table tells.0 o)
-event_ordered k (Some (was_failed r)) c d tells o = subst IsKeyed (sym tells.1) o
-event_ordered k (Some was_not_opened) c d tells o = absurd tells
-event_ordered k (Some was_opened) c d tells o = absurd tells
+-- What taken records keep of a table holds of the table behind a history.
+event_keeps : (k : Site) (P : Table → Type 0) → ((r : BatchRecord) (t : Table) → refusal r t ≡ None → P t → P (applied r t)) → (event : Option Event) (c d : Cluster) → Tells k event c d → P c.table → P d.table
+event_keeps k P kept None c d tells h = subst P (sym tells.0) h
+event_keeps k P kept (Some (was_kept r)) c d tells h = subst P (sym tells.2) (kept r c.table tells.0 h)
+event_keeps k P kept (Some (was_failed r)) c d tells h = subst P (sym tells.1) h
+event_keeps k P kept (Some was_not_opened) c d tells h = absurd tells
+event_keeps k P kept (Some was_opened) c d tells h = absurd tells
 
-ordered_history : (k : Site) (H : List Entry) (N : List GivenBack) (n : ℕ) (c : Cluster) → IsSound c → IsKeyed c.table → IsKeyed (cluster_from k n c N H).table
-ordered_history k [] N n c good o = subst IsKeyed (sym (back_table (back_at n N) c)) o
-ordered_history k (e ∷ es) N n c good o =
+pub table_history : (k : Site) (P : Table → Type 0) → ((r : BatchRecord) (t : Table) → refusal r t ≡ None → P t → P (applied r t)) → (H : List Entry) (N : List GivenBack) (n : ℕ) (c : Cluster) → IsSound c → P c.table → P (cluster_from k n c N H).table
+table_history k P kept [] N n c good h = subst P (sym (back_table (back_at n N) c)) h
+table_history k P kept (e ∷ es) N n c good h =
     let d = given_back (back_at n N) c in
     let g : IsSound d = back_good (back_at n N) c good in
     let s = step k d e.deed (faults_of e) in
-    ordered_history k es N (suc n) s.next (step_is_good k d e.deed (faults_of e) g) (event_ordered k (event_in d e.deed s.reply) d s.next (step_tells k d e.deed (faults_of e) g) (subst IsKeyed (sym (back_table (back_at n N) c)) o))
+    table_history k P kept es N (suc n) s.next (step_is_good k d e.deed (faults_of e) g) (event_keeps k P kept (event_in d e.deed s.reply) d s.next (step_tells k d e.deed (faults_of e) g) (subst P (sym (back_table (back_at n N) c)) h))
 
 pub behind_fits : (k : Site) (rs : List BatchRecord) (end : ℕ) (H : List Entry) (N : List GivenBack) (r : BatchRecord) (n : ℕ) → first_refusal rs no_rows ≡ None → Fits k (cluster_behind k (after rs no_rows) end H N) → IsOutcome r n → IsShort k r
     → refusal r (cluster_behind k (after rs no_rows) end H N).table ≡ None → need k (cluster_behind k (after rs no_rows) end H N).journal (cluster_behind k (after rs no_rows) end H N).table r ≤ k.setup.limits.journal
 behind_fits k rs end H N r n taken fits is short now =
     let o = keyed_after rs taken in
-    outcome_fits k (cluster_behind k (after rs no_rows) end H N).journal (cluster_behind k (after rs no_rows) end H N).table r n is now (ordered_history k H N 0 (opened k (after rs no_rows) end) (opened_is_good k (after rs no_rows) end o) o) short fits
+    outcome_fits k (cluster_behind k (after rs no_rows) end H N).journal (cluster_behind k (after rs no_rows) end H N).table r n is now (table_history k IsKeyed keyed_kept H N 0 (opened k (after rs no_rows) end) (opened_is_good k (after rs no_rows) end o) o) short fits
 
 -- The end never falls.
 event_rises : (k : Site) (event : Option Event) (c d : Cluster) → Tells k event c d → c.journal ≤ d.journal

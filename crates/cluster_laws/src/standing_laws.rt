@@ -1,5 +1,5 @@
 //! What holds of a cluster behind every step and every history, as contracts without code.
-ghost use Rattle.std.specs.Prelude.{◌≡◌, ◌≤◌, ℕ, ℤ, Bool, List, [], ◌∷◌, false, filter, is_some, length, not, true};
+ghost use Rattle.std.specs.Prelude.{◌≡◌, ◌≤◌, ℕ, ℤ, Bool, List, [], ◌∷◌, false, filter, is_some, length, map, not, true};
 ghost use Rattle.base_names.specs.declared.node.NodeLine.{NodeLine};
 ghost use Rattle.base_names.specs.declared.node.Placed.{Placed};
 ghost use Rattle.base_names.specs.declared.seat.Seat.{Seat};
@@ -7,6 +7,7 @@ ghost use Rattle.model_data.specs.declared.batch.BatchRecord.{BatchRecord};
 ghost use Rattle.model_data.specs.declared.batch.BatchRow.{BatchRow};
 ghost use Rattle.table_defs.specs.Names.{Owner};
 ghost use Rattle.table_defs.specs.Outcomes.{IsRisingFrom};
+ghost use Rattle.table_defs.specs.Owned.{rows_of};
 ghost use Rattle.table_defs.specs.Table.{Table, after, no_rows};
 ghost use Rattle.table_defs.specs.Taken.{AreTaken};
 ghost use Rattle.cluster_defs.specs.Cluster.{Cluster, Job, Running, lines, numbers_of, usage_of};
@@ -49,12 +50,15 @@ pub fn what_runs_stays()
 {}
 
 /// The jobs that are listed are those that are not lost, each once, by seat number, then by owner, then by role. A batch that
-/// has one row is there once, and batches are by owner, then by number.
+/// has one row is there once, and batches are by owner, then by number. What is listed of one owner's batches is by number,
+/// behind every history.
 pub fn jobs_are_listed_in_order()
     ensures once { (s : Seat) (jobs : List Job) → filter (λ job. is_seat s job.seat) (listed_jobs jobs) ≡ filter (λ job. is_seat s job.seat) (filter (λ job. not job.lost) jobs) }
     ensures ordered { (jobs : List Job) → IsInOrder (listed_jobs jobs) }
     ensures batches { (p : BatchRow → Bool) (rows : List BatchRow) → length (filter p rows) ≤ 1 → filter p (by_id rows) ≡ filter p rows }
     ensures batches_ordered { (rows : List BatchRow) → AreInOrder (by_id rows) }
+    ensures own { (u : Owner) (k : Site) (rs : List BatchRecord) (end : ℕ) (history : List Entry) (returned : List GivenBack) → AreTaken rs no_rows
+        → IsRisingFrom 0 (map (λ row. row.id.number) (rows_of u (cluster_behind k (after rs no_rows) end history returned).table.rows)) }
 {}
 
 /// The nodes of an opened cluster are in the order of their numbers, and behind every history they are those, also while places
