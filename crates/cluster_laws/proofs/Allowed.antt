@@ -1,6 +1,6 @@
 -- Each place given was the best at its moment, and behind all of them none may run.
 use Rattle.std.proofs.Common.{◌≡◌, ◌≢◌, ◌⊎◌, inl, inr, refl, sym, ap, ◌∙◌, subst, ◌+◌, ◌<◌, ◌==◌, ◌||◌, Bool, true, false, not, ℤ, pos, List, [], ◌∷◌, ◌++◌, append_assoc, Option, Some, None, cond, arith}
-use Rattle.std.specs.Prelude.{filter, nat_lt, if◌then◌else◌}
+use Rattle.std.specs.Prelude.{nat_lt, if◌then◌else◌}
 use Rattle.std.specs.Ordering.{int_eq}
 use Rattle.std.proofs.lemmas.Bool.Decides.{Decides-eqb, nat_tests}
 use Rattle.base_names.specs.declared.node.NodeLine.{NodeLine}
@@ -15,6 +15,7 @@ use Rattle.cluster_defs.specs.Cluster.{Running, Waiting}
 use Rattle.cluster_defs.specs.Placement.{all_dequeued, all_placed_attempts, best_node, dequeue, has_room, is_alive, may_run, occupied, placed_attempts, places, roomier}
 use Rattle.cluster_laws.specs.Places.{AreAllowed, CannotRun, Every, HasLess, HasNoMore, IsAllowed, IsBest, MayRun, lines_behind, new_attempts}
 use Rattle.cluster_defs.specs.Waiters.{is_waiter}
+use Rattle.cluster_laws.proofs.Every.{every_append, every_filter}
 use Rattle.cluster_laws.proofs.Rule.{none_later}
 use Rattle.cluster_laws.proofs.Waiters.{waiter_refl}
 
@@ -76,10 +77,6 @@ mapped : {A : Type 0} (P Q : A → Type 0) (f : (x : A) → P x → Q x) (xs : L
 mapped P Q f [] h = tt
 mapped P Q f (x ∷ xs) h = (f x h.0, mapped P Q f xs h.1)
 
-joined : {A : Type 0} (P : A → Type 0) (xs ys : List A) → Every P xs → Every P ys → Every P (xs ++ ys)
-joined P [] ys h k = k
-joined P (x ∷ xs) ys h k = (h.0, joined P xs ys h.1 k)
-
 less_through : (o m n : NodeLine) → HasLess o m → HasNoMore m n → HasNoMore o n
 less_through o m n h k = omega (arith, h, k)
 
@@ -90,7 +87,7 @@ through o m n h k = omega (arith, h, k)
 kept_first : (p : ℤ) (n m : NodeLine) (ns : List NodeLine) → HasNoMore m n → IsBest p ns m → Every (λ (o : NodeLine). MayRun p o → HasNoMore o n) ns
 kept_first p n m ns no_more best =
     let Q : NodeLine → Type 0 = λ (o : NodeLine). MayRun p o → HasNoMore o n in
-    subst (λ (xs : List NodeLine). Every Q xs) (sym best.whole) (joined Q best.before (m ∷ best.behind)
+    subst (λ (xs : List NodeLine). Every Q xs) (sym best.whole) (every_append Q best.before (m ∷ best.behind)
     (mapped (λ (o : NodeLine). MayRun p o → HasLess o m) Q (λ o f may. less_through o m n (f may) no_more) best.before best.less)
     (λ may. no_more, mapped (λ (o : NodeLine). MayRun p o → HasNoMore o m) Q (λ o f may. through o m n (f may) no_more) best.behind best.no_more))
 
@@ -139,14 +136,6 @@ IsHeld ns w = best_node w.priority ns ≡ None
 none_behind : (p : ℤ) (ps : List Placed) (ns : List NodeLine) → best_node p ns ≡ None → best_node p (lines_behind ps ns) ≡ None
 none_behind p [] ns h = h
 none_behind p (q ∷ ps) ns h = none_behind p ps (occupied q.node ns) (none_later p q.node ns h)
-
-every_then : {A : Type 0} (P : A → Type 0) (b : Bool) (x : A) (xs : List A) → P x → Every P xs → Every P (cond b (x ∷ xs) xs)
-every_then P true x xs h later = (h, later)
-every_then P false x xs h later = later
-
-every_filter : {A : Type 0} (P : A → Type 0) (q : A → Bool) (xs : List A) → Every P xs → Every P (filter q xs)
-every_filter P q [] h = tt
-every_filter P q (x ∷ xs) h = every_then P (q x) x (filter q xs) h.0 (every_filter P q xs h.1)
 
 -- what one more dequeues of the rest
 each_dequeued : (v : Waiter) (ps : List Placed) (ws : List Waiting) → all_dequeued ps (dequeue v ws) ≡ dequeue v (all_dequeued ps ws)

@@ -13,8 +13,8 @@ one_taken : (rs : List BatchRecord) (r : BatchRecord) → first_refusal rs no_ro
 one_taken rs r taken last = refusal_append rs (r ∷ []) no_rows ∙ ap₂ (λ (a b : Option Refusal). or_else a (or_else b None)) taken last
 
 -- with no doubt
-settled : (rs : List BatchRecord) (j : Journal) → first_refusal rs no_rows ≡ None → j.records ≡ rs → j.doubt ≡ None → AreAllTaken j
-settled rs j taken is none = record {
+without_doubt : (rs : List BatchRecord) (j : Journal) → first_refusal rs no_rows ≡ None → j.records ≡ rs → j.doubt ≡ None → AreAllTaken j
+without_doubt rs j taken is none = record {
   taken = ap (λ (x : List BatchRecord). first_refusal x no_rows) is ∙ taken;
   doubt = ap₂ (λ (x : List BatchRecord) (d : Option BatchRecord). first_refusal (x ++ option_to_list d) no_rows) is none ∙ (ap (λ (x : List BatchRecord). first_refusal x no_rows) (append_nil rs) ∙ taken);
 }
@@ -26,7 +26,7 @@ same j next is doubt sound = record {
 }
 
 follows_sound : (event : Event) (j next : Journal) → Follows event j next → AreAllTaken j → AreAllTaken next
-follows_sound (was_kept r) j next f sound = settled (j.records ++ r ∷ []) next (one_taken j.records r sound.taken f.0) f.1.0 f.1.1
+follows_sound (was_kept r) j next f sound = without_doubt (j.records ++ r ∷ []) next (one_taken j.records r sound.taken f.0) f.1.0 f.1.1
 follows_sound (was_failed r) j next f sound = elim f.1.1 [
   | inl as_it_was ↦ same j next f.1.0 as_it_was sound
   | inr new ↦ elim new [
@@ -34,13 +34,13 @@ follows_sound (was_failed r) j next f sound = elim f.1.1 [
       taken = ap (λ (x : List BatchRecord). first_refusal x no_rows) f.1.0 ∙ sound.taken;
       doubt = ap₂ (λ (x : List BatchRecord) (d : Option BatchRecord). first_refusal (x ++ option_to_list d) no_rows) f.1.0 here ∙ one_taken j.records r sound.taken f.0;
     }
-    | inr gone ↦ settled j.records next sound.taken f.1.0 gone
+    | inr gone ↦ without_doubt j.records next sound.taken f.1.0 gone
   ]
 ]
 follows_sound was_not_opened j next f sound = same j next f.1.0 f.1.1 sound
 follows_sound was_opened j next f sound = elim f.1.0 [
-  | inl as_it_was ↦ settled j.records next sound.taken as_it_was f.1.1
-  | inr longer ↦ settled (j.records ++ option_to_list j.doubt) next sound.doubt longer f.1.1
+  | inl as_it_was ↦ without_doubt j.records next sound.taken as_it_was f.1.1
+  | inr longer ↦ without_doubt (j.records ++ option_to_list j.doubt) next sound.doubt longer f.1.1
 ]
 
 none_sound : AreAllTaken none_yet

@@ -5,6 +5,7 @@ pub mod Bounded
 pub mod Charged
 pub mod Counts
 pub mod Ends
+pub mod Every
 pub mod Faults
 pub mod Histories
 pub mod HistoryLooks

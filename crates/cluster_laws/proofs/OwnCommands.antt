@@ -30,6 +30,7 @@ use Rattle.table_defs.proofs.Records.{or_first, or_then}
 use Rattle.cluster_laws.proofs.OwnEffects.{count_other, count_own, given_other, given_own, jobs_failed, jobs_marked, jobs_other, jobs_own, names_own, names_own_from, placed_failed, placed_other, placed_own, reply_own, table_failed, table_other, table_own}
 use Rattle.cluster_laws.proofs.OwnLooks.{back, commands_own, free_own, own_refusal_is}
 use Rattle.cluster_laws.proofs.OwnPlaces.{own_placements}
+use Rattle.cluster_laws.proofs.Rule.{if_off}
 use Rattle.cluster_defs.specs.Reading.{free, refused, whole}
 use Rattle.cluster_defs.specs.Asks.{Ask}
 use Rattle.cluster_defs.specs.Asks as asks
@@ -123,11 +124,6 @@ client_reply c ps seat asks.Nodes h = absurd (grind (arith, h))
 client_reply c ps seat asks.Jobs h = absurd (grind (arith, h))
 client_reply c ps seat ask h = refl
 
--- the shared answer is that of the refusal
-to_shared : Option Refusal → Shared
-to_shared None = free
-to_shared (Some r) = refused r
-
 -- ---- the end of a step
 
 -- what an own step makes of what an own command made
@@ -210,10 +206,6 @@ within_own u k c seat ask ps shared own e = ap (λ (x : Option Refusal). own_wit
 shared_as : (k : Site) (p : Part) (seat : Seat) (ask : Ask) (ps : List Placed) (x : Option Refusal) → own_shared k p seat ask ps (elim x as (λ _. Shared) [ None ↦ free | Some r ↦ refused r ]) ≡ own_with k p seat ask ps (own_refusal k p seat ask x)
 shared_as k p seat ask ps None = refl
 shared_as k p seat ask ps (Some r) = refl
-
-pub if_off : {A : Type 0} (b : Bool) (x y : A) → b ≡ false → (if b then x else y) ≡ y
-if_off true x y h = absurd (grind (arith, h))
-if_off false x y h = refl
 
 pub if_on : {A : Type 0} (b : Bool) (x y : A) → b ≡ true → (if b then x else y) ≡ x
 if_on true x y h = refl

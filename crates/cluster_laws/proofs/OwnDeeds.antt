@@ -20,7 +20,8 @@ use Rattle.cluster_laws.proofs.OwnEffects.{attempt_other}
 use Rattle.cluster_laws.proofs.OwnPlaces.{own_placements}
 use Rattle.cluster_defs.specs.Deeds.{Deed}
 use Rattle.cluster_defs.specs.Deeds.{Asked, Took, Finished, Left}
-use Rattle.cluster_laws.proofs.OwnCommands.{IsOwnStep, if_off, if_on, own_ask_step, part_same}
+use Rattle.cluster_laws.proofs.OwnCommands.{IsOwnStep, if_on, own_ask_step, part_same}
+use Rattle.cluster_laws.proofs.Rule.{if_off}
 
 -- ---- workers
 

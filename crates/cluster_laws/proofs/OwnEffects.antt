@@ -187,9 +187,6 @@ jobs_failed u node jobs = filter_changed (λ job. is_owner u job.seat.owner) (ru
 pub placed_failed : (u : Owner) (node : NodeNo) (placed : List Running) → attempts_of u (without_node node placed) ≡ without_node node (attempts_of u placed)
 placed_failed u node placed = filter_filter (λ r. is_owner u r.id.owner) (λ r. not (is_node node r.node)) placed
 
-mark : Job → Job
-mark job = record job { marked = true }
-
 marked_then : (u : Owner) (found : Job) (jobs : List Job) (b : Bool) → is_owner u found.seat.owner ≡ b → jobs_of u (marked_jobs (Some found) jobs) ≡ marked_jobs (if b then Some found else None) (jobs_of u jobs)
 marked_then u found jobs true is = filter_changed (λ job. is_owner u job.seat.owner) (λ job. is_job (id_of found) (id_of job)) (λ job. record job { marked = true }) (λ job. refl) jobs
 marked_then u found jobs false is = filter_changed_others (λ job. is_owner u job.seat.owner) (λ job. is_job (id_of found) (id_of job)) (λ job. record job { marked = true }) (λ job. refl) (λ job own. job_without u (id_of found) (id_of job) is own) jobs

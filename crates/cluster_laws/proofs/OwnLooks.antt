@@ -126,8 +126,8 @@ back_none = refl
 back_disk : (f : Faults) (r : BatchRecord) → back (or_else (disk_refusal f (Some r)) None) ≡ or_else (disk_refusal f (Some r)) None
 back_disk f r = back_or (disk_refusal f (Some r)) None (back_unless (nat_le f.after f.before) (DISK f.before f.after) refl) back_none
 
-back_journal : (k : Site) (c : Cluster) (f : Faults) (r : BatchRecord) → back (or_else (room_refusal k c.journal c.table r) (or_else (disk_refusal f (Some r)) None)) ≡ or_else (room_refusal k c.journal c.table r) (or_else (disk_refusal f (Some r)) None)
-back_journal k c f r = back_or (room_refusal k c.journal c.table r) (or_else (disk_refusal f (Some r)) None) (back_unless (nat_le (need k c.journal c.table r) k.setup.limits.journal) (JOURNALFULL (need k c.journal c.table r) k.setup.limits.journal) refl) (back_disk f r)
+back_room : (k : Site) (c : Cluster) (f : Faults) (r : BatchRecord) → back (or_else (room_refusal k c.journal c.table r) (or_else (disk_refusal f (Some r)) None)) ≡ or_else (room_refusal k c.journal c.table r) (or_else (disk_refusal f (Some r)) None)
+back_room k c f r = back_or (room_refusal k c.journal c.table r) (or_else (disk_refusal f (Some r)) None) (back_unless (nat_le (need k c.journal c.table r) k.setup.limits.journal) (JOURNALFULL (need k c.journal c.table r) k.setup.limits.journal) refl) (back_disk f r)
 
 role_first : (b : Bool) (x y : Option Refusal) → b ≡ false → or_else (unless b ROLE) x ≡ or_else (unless b ROLE) y
 role_first true x y h = absurd (grind (arith, h))
@@ -141,13 +141,13 @@ unfolding whole_tests
 refusal_back k c seat (asks.Job priority) f h = back_one (state_refusal c.jobs seat (asks.Job priority)) (or_else (alive_refusal c.nodes (asks.Job priority)) None) (back_or (alive_refusal c.nodes (asks.Job priority)) None (back_unless _ NONODE refl) back_none)
 refusal_back k c seat asks.Poll f h = back_one (job_refusal c.jobs seat asks.Poll) None back_none
 refusal_back k c seat asks.Leave f h = back_one (job_refusal c.jobs seat asks.Leave) None back_none
-refusal_back k c seat (asks.Create body) f h = back_two (numbers_refusal c.table seat (asks.Create body)) (bytes_refusal k c.table seat (asks.Create body)) _ (back_journal k c f _)
+refusal_back k c seat (asks.Create body) f h = back_two (numbers_refusal c.table seat (asks.Create body)) (bytes_refusal k c.table seat (asks.Create body)) _ (back_room k c f _)
 refusal_back k c seat (asks.Status id) f h = back_one (batch_refusal c.table seat (asks.Status id)) None back_none
 refusal_back k c seat (asks.Row id) f h = back_one (batch_refusal c.table seat (asks.Row id)) None back_none
 refusal_back k c seat asks.Listing f h = rw back_none
 refusal_back k c seat (asks.Abort id) f h = back_one (batch_refusal c.table seat (asks.Abort id)) _ (back_disk f (is.Abort id (attempt_in (row_of id c.table))))
-refusal_back k c seat (asks.Discard id) f h = back_one (batch_refusal c.table seat (asks.Discard id)) _ (back_journal k c f _)
-refusal_back k c seat (asks.Retry id) f h = back_one (batch_refusal c.table seat (asks.Retry id)) _ (back_journal k c f _)
+refusal_back k c seat (asks.Discard id) f h = back_one (batch_refusal c.table seat (asks.Discard id)) _ (back_room k c f _)
+refusal_back k c seat (asks.Retry id) f h = back_one (batch_refusal c.table seat (asks.Retry id)) _ (back_room k c f _)
 refusal_back k c seat ask f h = role_first (is_role seat.role Admin) _ _ h
 
 five : (x a b d e g a' b' d' e' g' s : Option Refusal) → a' ≡ a → b' ≡ b → d' ≡ d → e' ≡ e → g' ≡ g → first_of (x ∷ a' ∷ b' ∷ d' ∷ e' ∷ g' ∷ s ∷ []) ≡ first_of (x ∷ a ∷ b ∷ d ∷ e ∷ g ∷ s ∷ [])

@@ -13,13 +13,13 @@ use Rattle.cluster_defs.specs.Waiters.{is_job, owner_of}
 use Rattle.table_defs.proofs.Lists.{each_part, filter_changed, filter_changed_others, find_filter, push_other, push_own}
 use Rattle.cluster_laws.proofs.Waiters.{job_without, waiter_within}
 
-jobs_own : (u : Owner) (w : Waiter) (node : NodeNo) (jobs : List Job) → is_owner u (owner_of w) ≡ true → jobs_of u (placed_jobs record { waiter = w; node = node } jobs) ≡ placed_jobs record { waiter = w; node = node } (jobs_of u jobs)
-jobs_own u (Seat job) node jobs own = filter_changed (λ j. is_owner u j.seat.owner) (λ j. is_job job (id_of j)) (with_place node) (λ j. refl) jobs
-jobs_own u (Batch id attempt) node jobs own = refl
+place_own : (u : Owner) (w : Waiter) (node : NodeNo) (jobs : List Job) → is_owner u (owner_of w) ≡ true → jobs_of u (placed_jobs record { waiter = w; node = node } jobs) ≡ placed_jobs record { waiter = w; node = node } (jobs_of u jobs)
+place_own u (Seat job) node jobs own = filter_changed (λ j. is_owner u j.seat.owner) (λ j. is_job job (id_of j)) (with_place node) (λ j. refl) jobs
+place_own u (Batch id attempt) node jobs own = refl
 
-jobs_other : (u : Owner) (w : Waiter) (node : NodeNo) (jobs : List Job) → is_owner u (owner_of w) ≡ false → jobs_of u (placed_jobs record { waiter = w; node = node } jobs) ≡ jobs_of u jobs
-jobs_other u (Seat job) node jobs other = filter_changed_others (λ j. is_owner u j.seat.owner) (λ j. is_job job (id_of j)) (with_place node) (λ j. refl) (λ j own. job_without u job (id_of j) other own) jobs
-jobs_other u (Batch id attempt) node jobs other = refl
+place_other : (u : Owner) (w : Waiter) (node : NodeNo) (jobs : List Job) → is_owner u (owner_of w) ≡ false → jobs_of u (placed_jobs record { waiter = w; node = node } jobs) ≡ jobs_of u jobs
+place_other u (Seat job) node jobs other = filter_changed_others (λ j. is_owner u j.seat.owner) (λ j. is_job job (id_of j)) (with_place node) (λ j. refl) (λ j own. job_without u job (id_of j) other own) jobs
+place_other u (Batch id attempt) node jobs other = refl
 
 attempts_own : (u : Owner) (w : Waiter) (node : NodeNo) (placed : List Running) → is_owner u (owner_of w) ≡ true → attempts_of u (placed_attempts record { waiter = w; node = node } placed) ≡ placed_attempts record { waiter = w; node = node } (attempts_of u placed)
 attempts_own u (Seat job) node placed own = refl
@@ -31,11 +31,8 @@ attempts_other u (Batch id attempt) node placed other = push_other (λ r. is_own
 
 pub own_placements : (u : Owner) (ps : List Placed) (c : Cluster) → part_of u (settled ps c) ≡ own_settled (placements_of u ps) (part_of u c)
 own_placements u ps c = ap₂ (λ (jobs : List Job) (placed : List Running). record (part_of u c) { jobs = jobs; placed = placed })
-    (each_part placed_jobs (λ p. is_owner u (owner_of p.waiter)) (jobs_of u) (λ p jobs own. jobs_own u p.waiter p.node jobs own) (λ p jobs other. jobs_other u p.waiter p.node jobs other) ps c.jobs)
+    (each_part placed_jobs (λ p. is_owner u (owner_of p.waiter)) (jobs_of u) (λ p jobs own. place_own u p.waiter p.node jobs own) (λ p jobs other. place_other u p.waiter p.node jobs other) ps c.jobs)
     (each_part placed_attempts (λ p. is_owner u (owner_of p.waiter)) (attempts_of u) (λ p placed own. attempts_own u p.waiter p.node placed own) (λ p placed other. attempts_other u p.waiter p.node placed other) ps c.placed)
-
-node_in : Option Placed → Option NodeNo
-node_in found = elim found as (λ _. Option NodeNo) [ None ↦ None | Some p ↦ Some p.node ]
 
 -- an own waiter's place stands among the own placements
 pub own_place : (u : Owner) (w : Waiter) (ps : List Placed) → is_owner u (owner_of w) ≡ true → place_among w (placements_of u ps) ≡ place_among w ps

@@ -35,7 +35,7 @@ use Rattle.cluster_laws.specs.Sound.{IsSound}
 use Rattle.cluster_laws.proofs.Ends.{end_push, kept_end}
 use Rattle.cluster_laws.proofs.Journals.{reached_sound}
 use Rattle.cluster_laws.proofs.Lives.{back_good, back_journal, back_table, good_from, life_reaches, stopped_tells}
-use Rattle.cluster_laws.proofs.Records.{IsOther, commands_other, disk_is_last, disk_other, is_disk, room_from, step_tells}
+use Rattle.cluster_laws.proofs.Records.{IsOther, commands_other, disk_is_last, disk_other, tells_disk, room_from, step_tells}
 use Rattle.cluster_laws.proofs.Room.{record_fits}
 use Rattle.cluster_laws.proofs.SoundOpenings.{opened_is_good}
 use Rattle.cluster_laws.proofs.SoundSteps.{step_is_good}
@@ -61,7 +61,7 @@ one_room : (k : Site) (end : ℕ) (t : Table) (reply : EntryReply) (r : Option B
 one_room k end t reply None h = tt
 one_room k end t reply (Some r) h = told_room k end t reply r h
 
-refused_room : (k : Site) (end : ℕ) (t : Table) (refusal : Refusal) (r : Option BatchRecord) → (is_disk refusal ≡ true → journal_refusal k end t r ≡ None) → HadRoom k end t (event_of (answers.Reply (tells.Refused refusal)) r)
+refused_room : (k : Site) (end : ℕ) (t : Table) (refusal : Refusal) (r : Option BatchRecord) → (tells_disk refusal ≡ true → journal_refusal k end t r ≡ None) → HadRoom k end t (event_of (answers.Reply (tells.Refused refusal)) r)
 refused_room k end t refusal None h = tt
 refused_room k end t (DISK before after) (Some r) h = h refl
 refused_room k end t refusal (Some r) h = tt

@@ -1,5 +1,5 @@
 -- An owner's rows stand by number.
-use Rattle.std.proofs.Common.{◌≡◌, refl, sym, ap, ◌∙◌, subst, ℕ, ◌<◌, ◌≤◌, Bool, true, false, not, List, [], ◌∷◌, ◌++◌, Some, None, cond, map, arith}
+use Rattle.std.proofs.Common.{◌≡◌, refl, sym, ap, subst, ℕ, ◌<◌, ◌≤◌, Bool, true, false, not, List, [], ◌∷◌, ◌++◌, Some, None, cond, map, arith}
 use Rattle.std.specs.Prelude.{filter}
 use Rattle.base_names.specs.declared.id.BatchId.{BatchId}
 use Rattle.model_data.specs.declared.batch.AttemptOf.{AttemptOf}

@@ -1,17 +1,15 @@
 -- How often jobs are asked for, where few owners ask: each such command is counted.
-use Rattle.std.proofs.Common.{◌≡◌, inl, inr, refl, sym, ap, ◌∙◌, subst, ℕ, suc, ◌+◌, ◌*◌, ◌≤◌, Bool, true, false, List, [], ◌∷◌, length, Option, Some, None, arith}
+use Rattle.std.proofs.Common.{◌≡◌, inl, inr, refl, sym, ap, ◌∙◌, subst, ℕ, suc, ◌+◌, ◌*◌, ◌≤◌, Bool, false, List, [], ◌∷◌, length, Option, Some, None, arith}
 use Rattle.std.specs.Prelude.{nat_le, sum_by}
 use Rattle.std.proofs.lemmas.List.Sums.{sum_by-cons}
-use Rattle.base_names.specs.declared.id.BatchId.{BatchId}
 use Rattle.base_names.specs.declared.refusal.Refusal.{Refusal}
 use Rattle.base_names.specs.declared.seat.Seat.{Seat}
 use Rattle.table_defs.specs.Names.{Owner}
 use Rattle.table_defs.specs.Table.{Table, row_of}
 use Rattle.table_defs.proofs.Lists.{fewer}
-use Rattle.cluster_defs.specs.Answers.{whole_reply}
 use Rattle.cluster_defs.specs.Asks as asks
 use Rattle.cluster_defs.specs.Asks.{Ask}
-use Rattle.cluster_defs.specs.Charges.{charge, counted}
+use Rattle.cluster_defs.specs.Charges.{counted}
 use Rattle.cluster_defs.specs.Cluster.{Cluster, Job, Usage, usage_of}
 use Rattle.cluster_defs.specs.Deeds.{Asked, Deed, Faults, Finished, Left, Took}
 use Rattle.cluster_defs.specs.Entries.{Entry, faults_of}
@@ -19,7 +17,7 @@ use Rattle.cluster_defs.specs.Legal.{GivenBack, IsLegal, IsLegalFrom, MayHappen,
 use Rattle.cluster_defs.specs.Opened.{opened}
 use Rattle.cluster_defs.specs.Refusals.{ask_refusal, is_free}
 use Rattle.cluster_defs.specs.Site.{Site}
-use Rattle.cluster_defs.specs.Step.{asked_with, count_reply, step, still_open, with_returned, within_limit}
+use Rattle.cluster_defs.specs.Step.{asked_with, step, still_open, with_returned, within_limit}
 use Rattle.cluster_laws.specs.Bounds.{AreAmong, IsAmong, IsLawful, asks_for_job, jobs_asked, most_commands, most_jobs, most_owners}
 use Rattle.cluster_laws.specs.Places.{IsIn}
 use Rattle.cluster_laws.proofs.Bounded.{asked_first}
@@ -69,21 +67,21 @@ ask_rises : (owners : List Owner) (k : Site) (c : Cluster) (seat : Seat) (ask : 
 ask_rises owners k c seat ask (Some r) among = asked_rises owners c.jobs seat ask _ c.usage among
 ask_rises owners k c seat ask None among = asked_rises owners c.jobs seat ask _ c.usage among
 
-as_many : (owners : List Owner) (c next : Cluster) → next.usage ≡ c.usage → 0 + entries_of owners c.usage ≤ entries_of owners next.usage
-as_many owners c next same = let e = ap (entries_of owners) same in omega (arith, e)
+as_before : (owners : List Owner) (c next : Cluster) → next.usage ≡ c.usage → 0 + entries_of owners c.usage ≤ entries_of owners next.usage
+as_before owners c next same = let e = ap (entries_of owners) same in omega (arith, e)
 
 step_rises : (owners : List Owner) (k : Site) (c : Cluster) (d : Deed) (f : Faults) → MayHappen k c d → IsAmong owners d → Rises owners d c (step k c d f).next
 step_rises owners k c (Asked seat ask) f may among = subst (λ (x : Option Refusal). Rises owners (Asked seat ask) c (within_limit c x (asked_with k c seat ask (ask_refusal k c seat ask f))).next) (sym may) (ask_rises owners k c seat ask (ask_refusal k c seat ask f) among)
-step_rises owners k c (Took worker id n) f may among = as_many owners c (step k c (Took worker id n) f).next refl
-step_rises owners k c (Finished id n result) f may among = as_many owners c (step k c (Finished id n result) f).next (finish_within k c id n result f (still_open n (row_of id c.table)) (nat_le f.after f.before) refl refl)
-step_rises owners k c (Left id n) f may among = as_many owners c (step k c (Left id n) f).next (left_within k c id n f (still_open n (row_of id c.table)) refl)
+step_rises owners k c (Took worker id n) f may among = as_before owners c (step k c (Took worker id n) f).next refl
+step_rises owners k c (Finished id n result) f may among = as_before owners c (step k c (Finished id n result) f).next (finish_within k c id n result f (still_open n (row_of id c.table)) (nat_le f.after f.before) refl refl)
+step_rises owners k c (Left id n) f may among = as_before owners c (step k c (Left id n) f).next (left_within k c id n f (still_open n (row_of id c.table)) refl)
 
 back_usage : (gs : List GivenBack) (c : Cluster) → (given_back gs c).usage ≡ c.usage
 back_usage [] c = refl
 back_usage (g ∷ gs) c = back_usage gs (with_returned c g.id g.attempt)
 
 history_rises : (owners : List Owner) (k : Site) (H : List Entry) (N : List GivenBack) (n faults : ℕ) (c : Cluster) → IsLegalFrom k n faults c N H → AreAmong owners H → jobs_asked H + entries_of owners c.usage ≤ entries_of owners (cluster_from k n c N H).usage
-history_rises owners k [] N n faults c legal among = as_many owners c (given_back (back_at n N) c) (back_usage (back_at n N) c)
+history_rises owners k [] N n faults c legal among = as_before owners c (given_back (back_at n N) c) (back_usage (back_at n N) c)
 history_rises owners k (e ∷ es) N n faults c legal among =
     let d = given_back (back_at n N) c in
     let next = (step k d e.deed (faults_of e)).next in

@@ -40,15 +40,15 @@ use Rattle.cluster_defs.specs.Deeds.{Deed}
 
 -- ---- only the last test is that of the disk
 
-abbrev pub is_disk : Refusal → Bool
-is_disk (DISK before after) = true
-is_disk refusal = false
+abbrev pub tells_disk : Refusal → Bool
+tells_disk (DISK before after) = true
+tells_disk refusal = false
 
 abbrev pub IsOther : Option Refusal → Type 0
 IsOther None = ⊤
-IsOther (Some refusal) = is_disk refusal ≡ false
+IsOther (Some refusal) = tells_disk refusal ≡ false
 
-other_unless : (b : Bool) (r : Refusal) → is_disk r ≡ false → IsOther (unless b r)
+other_unless : (b : Bool) (r : Refusal) → tells_disk r ≡ false → IsOther (unless b r)
 other_unless true r h = tt
 other_unless false r h = h
 
@@ -111,11 +111,11 @@ other_journal k end t (Some (is.Lost items)) = tt
 other_journal k end t (Some (is.Next id)) = other_unless _ (JOURNALFULL _ _) refl
 
 -- a refusal of the disk is none of those before it
-past : (x rest : Option Refusal) (r : Refusal) → IsOther x → is_disk r ≡ true → or_else x rest ≡ Some r → (x ≡ None) × (rest ≡ Some r)
+past : (x rest : Option Refusal) (r : Refusal) → IsOther x → tells_disk r ≡ true → or_else x rest ≡ Some r → (x ≡ None) × (rest ≡ Some r)
 past None rest r other disk h = (refl, h)
-past (Some q) rest r other disk h = let e : q ≡ r = cc in let k : is_disk r ≡ false = sym (ap is_disk e) ∙ other in absurd (grind (arith, k, disk))
+past (Some q) rest r other disk h = let e : q ≡ r = cc in let k : tells_disk r ≡ false = sym (ap tells_disk e) ∙ other in absurd (grind (arith, k, disk))
 
-pub disk_is_last : (k : Site) (c : Cluster) (seat : Seat) (ask : Ask) (f : Faults) (r : Refusal) → is_disk r ≡ true → ask_refusal k c seat ask f ≡ Some r → (batch_refusal c.table seat ask ≡ None) × (numbers_refusal c.table seat ask ≡ None) × (journal_refusal k c.journal c.table (record_of c.table c.placed seat ask) ≡ None)
+pub disk_is_last : (k : Site) (c : Cluster) (seat : Seat) (ask : Ask) (f : Faults) (r : Refusal) → tells_disk r ≡ true → ask_refusal k c seat ask f ≡ Some r → (batch_refusal c.table seat ask ≡ None) × (numbers_refusal c.table seat ask ≡ None) × (journal_refusal k c.journal c.table (record_of c.table c.placed seat ask) ≡ None)
 disk_is_last k c seat ask f r disk h =
     let a = past (role_refusal seat ask) _ r (other_unless _ ROLE refl) disk h in
     let b = past (node_refusal c.nodes ask) _ r (other_node c.nodes ask) disk a.1 in
@@ -168,7 +168,7 @@ done_tells k c d None taken room table end = (table, end)
 done_tells k c d (Some r) taken room table end = (taken, room, table, end)
 
 -- the cluster is as before, and the answer a refusal
-refused_tells : (k : Site) (c d : Cluster) (refusal : Refusal) (r : Option BatchRecord) → d.table ≡ c.table → d.journal ≡ c.journal → (is_disk refusal ≡ true → IsTaken c.table r) → Tells k (event_of (answers.Reply (tells.Refused refusal)) r) c d
+refused_tells : (k : Site) (c d : Cluster) (refusal : Refusal) (r : Option BatchRecord) → d.table ≡ c.table → d.journal ≡ c.journal → (tells_disk refusal ≡ true → IsTaken c.table r) → Tells k (event_of (answers.Reply (tells.Refused refusal)) r) c d
 refused_tells k c d refusal None table end taken = (table, end)
 refused_tells k c d (DISK before after) (Some r) table end taken = (taken refl, table, end)
 refused_tells k c d refusal (Some r) table end taken = (table, end)
@@ -176,7 +176,7 @@ refused_tells k c d refusal (Some r) table end taken = (table, end)
 pub commands_other : (b : Bool) → IsOther (unless b (OWNERFULL Commands))
 commands_other b = other_unless b (OWNERFULL Commands) refl
 
-pub disk_other : (r : Refusal) → is_disk r ≡ false → is_disk r ≡ true → ⊥
+pub disk_other : (r : Refusal) → tells_disk r ≡ false → tells_disk r ≡ true → ⊥
 disk_other r a b = grind (arith, a, b)
 
 asked_tells : (k : Site) (c : Cluster) (seat : Seat) (ask : Ask) (f : Faults) (x0 x : Option Refusal) → IsOther x0 → ask_refusal k c seat ask f ≡ x → IsSound c

@@ -1,6 +1,6 @@
 -- An outcome always fits into the journal, since it frees its reserve.
-use Rattle.std.proofs.Common.{◌≡◌, refl, sym, ap, subst, ℕ, suc, ◌+◌, ◌≤◌, ◌==◌, Bool, true, false, List, [], ◌∷◌, ◌++◌, length, Option, Some, None, arith}
-use Rattle.std.specs.Prelude.{filter, option_to_list, nat_le}
+use Rattle.std.proofs.Common.{◌≡◌, refl, sym, ap, subst, ℕ, suc, ◌+◌, ◌≤◌, ◌==◌, true, false, List, [], ◌∷◌, ◌++◌, length, Option, Some, None, arith}
+use Rattle.std.specs.Prelude.{option_to_list, nat_le}
 use Rattle.std.proofs.lemmas.Bool.Decides.{nat_tests}
 use Rattle.base_names.specs.declared.id.BatchId.{BatchId}
 use Rattle.base_names.specs.declared.refusal.Refusal.TheVariants.{JOURNALFULL}
@@ -8,11 +8,11 @@ use Rattle.model_data.specs.declared.batch.AttemptOf.{AttemptOf}
 use Rattle.model_data.specs.declared.batch.BatchRecord.{BatchRecord}
 use Rattle.model_data.specs.declared.batch.BatchRecord.TheVariants.{Create, Abort, Discard, Retry, Finish, Lost, Next}
 use Rattle.model_data.specs.declared.batch.BatchResult.{BatchResult}
-use Rattle.model_data.specs.declared.batch.BatchRow.{BatchRow}
 use Rattle.table_defs.specs.Keyed.{IsKeyed}
 use Rattle.table_defs.specs.Names.{is_id}
 use Rattle.table_defs.specs.Table.{Table, aborted, after, applied, completed, ended, failed as lost_status, lost, no_rows, row_of, submitted, with_row}
 use Rattle.table_defs.specs.Taken.{first_refusal, is_open, lost_refusal, on_row, refusal}
+use Rattle.cluster_defs.specs.Listing.{is_going_on}
 use Rattle.cluster_defs.specs.Cluster.{Cluster}
 use Rattle.cluster_defs.specs.Entries.{faults_of}
 use Rattle.cluster_defs.specs.Journal.{Event, was_failed, was_kept, was_not_opened, was_opened}
@@ -33,27 +33,21 @@ use Rattle.cluster_laws.proofs.Lives.{back_good, back_journal, back_table}
 use Rattle.cluster_laws.proofs.Records.{step_tells}
 use Rattle.cluster_laws.proofs.SoundOpenings.{opened_is_good}
 use Rattle.cluster_laws.proofs.SoundSteps.{step_is_good}
+use Rattle.cluster_laws.proofs.Weights.{going_on}
 use Rattle.cluster_defs.specs.Entries.{Entry}
 use Rattle.cluster_defs.specs.Entries.{EntryReply}
 
-abbrev going : BatchRow → Bool
-going row = row.status == submitted
-
--- how many go on
-abbrev count : Table → ℕ
-count t = length (filter going t.rows)
-
 -- ---- an outcome ends one attempt, or as many as it has items
 
-frees_one : (id : BatchId) (n status : ℕ) (result : Option BatchResult) (t : Table) → (status == submitted) ≡ false → on_row (is_open n) (row_of id t) ≡ None → IsKeyed t → count (with_row id (ended status result) t) + 1 ≡ count t
+frees_one : (id : BatchId) (n status : ℕ) (result : Option BatchResult) (t : Table) → (status == submitted) ≡ false → on_row (is_open n) (row_of id t) ≡ None → IsKeyed t → going_on (with_row id (ended status result) t) + 1 ≡ going_on t
 frees_one id n status result t over taken o =
     let w = wanted_row (is_open n) (row_of id t) taken in
-    one_fewer (λ row. is_id id row.id) going (ended status result) t.rows w.0 (o.single id) w.1 (and_left (going w.0) (w.0.attempt == n) w.2) over
+    one_fewer (λ row. is_id id row.id) is_going_on (ended status result) t.rows w.0 (o.single id) w.1 (and_left (is_going_on w.0) (w.0.attempt == n) w.2) over
 
 ordered_ended : (id : BatchId) (status : ℕ) (result : Option BatchResult) (t : Table) → IsKeyed t → IsKeyed (with_row id (ended status result) t)
 ordered_ended id status result t o = record { numbered = numbered_with id (ended status result) t (λ row. refl) o.numbered; single = single_with id (ended status result) t (λ row. refl) o.single }
 
-frees_all : (items : List AttemptOf) (t : Table) → lost_refusal items t ≡ None → IsKeyed t → count (lost items t) + length items ≡ count t
+frees_all : (items : List AttemptOf) (t : Table) → lost_refusal items t ≡ None → IsKeyed t → going_on (lost items t) + length items ≡ going_on t
 frees_all [] t taken o = omega arith
 frees_all (item ∷ items) t taken o =
     let next = with_row item.id (ended lost_status None) t in
@@ -61,7 +55,7 @@ frees_all (item ∷ items) t taken o =
     let later = frees_all items next (or_then (on_row (is_open item.attempt) (row_of item.id t)) (lost_refusal items next) taken) (ordered_ended item.id lost_status None t o) in
     omega (arith, first, later)
 
-pub frees : (r : BatchRecord) (n : ℕ) (t : Table) → IsOutcome r n → refusal r t ≡ None → IsKeyed t → count (applied r t) + n ≡ count t
+pub frees : (r : BatchRecord) (n : ℕ) (t : Table) → IsOutcome r n → refusal r t ≡ None → IsKeyed t → going_on (applied r t) + n ≡ going_on t
 frees (Abort id attempt) n t is taken o = let e = frees_one id attempt aborted None t refl taken o in omega (arith, e, is)
 frees (Finish id attempt result) n t is taken o = let e = frees_one id attempt completed (Some result) t refl taken o in omega (arith, e, is)
 frees (Lost items) n t is taken o = let e = frees_all items t taken o in omega (arith, e, is)
@@ -76,17 +70,17 @@ outcome_fits k end t r n is taken o short fits = let e = frees r n t is taken o 
 
 -- ---- any record
 
-has_room : (k : Site) (end : ℕ) (t : Table) (r : BatchRecord) → room_refusal k end t r ≡ None → need k end t r ≤ k.setup.limits.journal
-has_room k end t r h = let b : nat_le (need k end t r) k.setup.limits.journal ≡ true = unless_none _ (JOURNALFULL (need k end t r) k.setup.limits.journal) h in grind (arith, nat_tests, b)
+room_left : (k : Site) (end : ℕ) (t : Table) (r : BatchRecord) → room_refusal k end t r ≡ None → need k end t r ≤ k.setup.limits.journal
+room_left k end t r h = let b : nat_le (need k end t r) k.setup.limits.journal ≡ true = unless_none _ (JOURNALFULL (need k end t r) k.setup.limits.journal) h in grind (arith, nat_tests, b)
 
 pub record_fits : (k : Site) (end : ℕ) (t : Table) (r : BatchRecord) → refusal r t ≡ None → journal_refusal k end t (Some r) ≡ None → IsKeyed t → IsShort k r → end + reserve t ≤ k.setup.limits.journal → need k end t r ≤ k.setup.limits.journal
 record_fits k end t (Abort id attempt) taken room o short fits = outcome_fits k end t (Abort id attempt) 1 refl taken o short fits
 record_fits k end t (Finish id attempt result) taken room o short fits = outcome_fits k end t (Finish id attempt result) 1 refl taken o short fits
 record_fits k end t (Lost items) taken room o short fits = outcome_fits k end t (Lost items) (length items) refl taken o short fits
-record_fits k end t (Create id attempt body) taken room o short fits = has_room k end t (Create id attempt body) room
-record_fits k end t (Discard id) taken room o short fits = has_room k end t (Discard id) room
-record_fits k end t (Retry id attempt) taken room o short fits = has_room k end t (Retry id attempt) room
-record_fits k end t (Next id) taken room o short fits = has_room k end t (Next id) room
+record_fits k end t (Create id attempt body) taken room o short fits = room_left k end t (Create id attempt body) room
+record_fits k end t (Discard id) taken room o short fits = room_left k end t (Discard id) room
+record_fits k end t (Retry id attempt) taken room o short fits = room_left k end t (Retry id attempt) room
+record_fits k end t (Next id) taken room o short fits = room_left k end t (Next id) room
 
 -- ---- a step
 

@@ -31,14 +31,14 @@ none_there : (b : Bool) (x : NodeLine) (rest : Option NodeLine) → (if b then S
 none_there true x rest h = absurd (grind (arith, h))
 none_there false x rest h = h
 
-if_false : {A : Type 0} (b : Bool) (x y : A) → b ≡ false → (if b then x else y) ≡ y
-if_false true x y h = absurd (grind (arith, h))
-if_false false x y h = refl
+pub if_off : {A : Type 0} (b : Bool) (x y : A) → b ≡ false → (if b then x else y) ≡ y
+if_off true x y h = absurd (grind (arith, h))
+if_off false x y h = refl
 
 pub none_later : (p : ℤ) (node : NodeNo) (ns : List NodeLine) → best_node p ns ≡ None → best_node p (occupied node ns) ≡ None
 none_later p node [] h = refl
 none_later p node (n ∷ ns) h =
-    if_false (may_run p (if is_node node n.node then record n { running = n.running + 1 } else n)) _ _ (still_none p node n (is_node node n.node) (none_here (may_run p n) _ (best_node p ns) h))
+    if_off (may_run p (if is_node node n.node then record n { running = n.running + 1 } else n)) _ _ (still_none p node n (is_node node n.node) (none_here (may_run p n) _ (best_node p ns) h))
     ∙ none_later p node ns (none_there (may_run p n) _ (best_node p ns) h)
 
 places_skip : (w : Waiting) (ws : List Waiting) (ns : List NodeLine) (x : Option NodeLine) → best_node w.priority ns ≡ x → x ≡ None → places (w ∷ ws) ns ≡ places ws ns

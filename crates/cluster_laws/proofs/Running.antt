@@ -17,7 +17,7 @@ use Rattle.cluster_laws.specs.Seated.{IsFree, IsSeated, SeatStands, asks_for, jo
 use Rattle.cluster_defs.specs.Waiters.{is_job, is_node, is_seat, is_waiter}
 use Rattle.table_defs.proofs.Names.{and_left}
 use Rattle.cluster_laws.proofs.Allowed.{none_may_run}
-use Rattle.cluster_laws.proofs.Lists.{find_head, head_of, none_changed}
+use Rattle.cluster_laws.proofs.Lists.{find_head, head_of, no_length, none_changed, some_same}
 use Rattle.cluster_laws.proofs.Seated.{job_else}
 use Rattle.cluster_laws.proofs.Waiters.{seat_refl, waiter_refl}
 
@@ -26,13 +26,6 @@ use Rattle.cluster_laws.proofs.Waiters.{seat_refl, waiter_refl}
 filter_within : {A : Type 0} (p test : A → Bool) (within : (x : A) → test x ≡ true → p x ≡ true) (xs : List A) → filter test (filter p xs) ≡ filter test xs
 filter_within p test within [] = refl
 filter_within p test within (x ∷ xs) = grind (arith, within x, filter_within p test within xs)
-
-no_more : {A : Type 0} (xs : List A) → length xs ≤ 0 → xs ≡ []
-no_more [] h = refl
-no_more (x ∷ xs) h = absurd (omega (arith, h))
-
-same_some : {A : Type 0} (x y : A) → Some x ≡ Some y → x ≡ y
-same_some x y h = cc
 
 one_of : {A : Type 0} (b : Bool) (x : A) (xs : List A) → length (cond b (x ∷ xs) xs) ≡ length xs + cond b 1 0
 one_of true x xs = omega arith
@@ -47,8 +40,8 @@ more_by : {A : Type 0} (test p : A → Bool) (f : A → A) (y : A) (ys : List A)
     → length (filter p (cond b (f y) y ∷ changed test f ys)) ≡ length (filter p (y ∷ ys)) + cond (p (f x)) 1 0
 more_by test p f y ys x true one is off later =
     let none : length (filter test ys) ≤ 0 = omega (arith, one) in
-    let e : changed test f ys ≡ ys = none_changed test f ys (no_more (filter test ys) none) in
-    let s : y ≡ x = same_some y x is in
+    let e : changed test f ys ≡ ys = none_changed test f ys (no_length (filter test ys) none) in
+    let s : y ≡ x = some_same y x is in
     let a : p y ≡ false = ap p s ∙ off in
     let c : p (f y) ≡ p (f x) = ap (λ z. p (f z)) s in
     rw (e, a, c) (one_of (p (f x)) (f y) (filter p ys))

@@ -11,7 +11,6 @@ use Rattle.model_data.specs.declared.batch.AttemptOf.{AttemptOf}
 use Rattle.model_data.specs.declared.batch.BatchRecord.{BatchRecord}
 use Rattle.model_data.specs.declared.batch.BatchRecord.TheVariants as is
 use Rattle.model_data.specs.declared.batch.BatchRow.{BatchRow}
-use Rattle.table_defs.specs.Lists.{changed}
 use Rattle.table_defs.specs.Names.{Owner, is_id, is_owner}
 use Rattle.table_defs.specs.Table.{Mark, Table, aborted, after, applied, begun, completed, ended, failed, greatest, lost, new_row, no_rows, number_of, row_of, with_mark, with_row}
 use Rattle.table_defs.proofs.Names.{and_right}
@@ -34,35 +33,10 @@ use Rattle.cluster_defs.specs.Step.{asked_with, step, still_open, within_limit}
 use Rattle.cluster_defs.specs.Told.{well}
 use Rattle.cluster_laws.specs.Bounds.{AreSmall, HasSmall, IsSmall}
 use Rattle.cluster_laws.specs.Places.{Every}
+use Rattle.cluster_laws.proofs.Every.{every_append, every_changed, every_filter, every_push}
 use Rattle.cluster_laws.proofs.OwnCommands.{batch_from}
-use Rattle.cluster_laws.proofs.Records.{IsOther, commands_other, disk_is_last, disk_other, is_disk, numbers_from}
+use Rattle.cluster_laws.proofs.Records.{IsOther, commands_other, disk_is_last, disk_other, tells_disk, numbers_from}
 use Rattle.cluster_laws.proofs.TakenRecords.{seen_is}
-
--- ---- what holds of every item
-
-pub every_push : {A : Type 0} (P : A → Type 0) (xs : List A) (x : A) → Every P xs → P x → Every P (xs ++ x ∷ [])
-every_push P [] x h p = (p, tt)
-every_push P (y ∷ ys) x h p = (h.0, every_push P ys x h.1 p)
-
-pub every_append : {A : Type 0} (P : A → Type 0) (xs ys : List A) → Every P xs → Every P ys → Every P (xs ++ ys)
-every_append P [] ys h later = later
-every_append P (x ∷ xs) ys h later = (h.0, every_append P xs ys h.1 later)
-
-kept_by : {A : Type 0} (P : A → Type 0) (q : A → Bool) (x : A) (xs : List A) (b : Bool) → P x → Every P (filter q xs) → Every P (cond b (x ∷ filter q xs) (filter q xs))
-kept_by P q x xs true p h = (p, h)
-kept_by P q x xs false p h = h
-
-every_filter : {A : Type 0} (P : A → Type 0) (q : A → Bool) (xs : List A) → Every P xs → Every P (filter q xs)
-every_filter P q [] h = tt
-every_filter P q (x ∷ xs) h = kept_by P q x xs (q x) h.0 (every_filter P q xs h.1)
-
-made_by : {A : Type 0} (P : A → Type 0) (f : A → A) (x : A) (b : Bool) → (P x → P (f x)) → P x → P (cond b (f x) x)
-made_by P f x true each p = each p
-made_by P f x false each p = p
-
-every_changed : {A : Type 0} (P : A → Type 0) (test : A → Bool) (f : A → A) → ((x : A) → P x → P (f x)) → (xs : List A) → Every P xs → Every P (changed test f xs)
-every_changed P test f each [] h = tt
-every_changed P test f each (x ∷ xs) h = (made_by P f x (test x) (each x) h.0, every_changed P test f each xs h.1)
 
 -- ---- tables
 
@@ -148,7 +122,7 @@ one_small : (reply : EntryReply) (r : Option BatchRecord) → IsSmallOne r → I
 one_small reply None h = tt
 one_small reply (Some r) h = told_small reply r h
 
-refused_small : (refusal : Refusal) (r : Option BatchRecord) → (is_disk refusal ≡ true → IsSmallOne r) → IsSmallEvent (event_of (answers.Reply (tells.Refused refusal)) r)
+refused_small : (refusal : Refusal) (r : Option BatchRecord) → (tells_disk refusal ≡ true → IsSmallOne r) → IsSmallEvent (event_of (answers.Reply (tells.Refused refusal)) r)
 refused_small refusal None h = tt
 refused_small (DISK before after) (Some r) h = h refl
 refused_small refusal (Some r) h = tt

@@ -1,15 +1,14 @@
 -- An opened cluster is sound: all that is submitted waits, and is placed.
 use Rattle.std.proofs.Common.{◌≡◌, refl, sym, ap, ◌∙◌, subst, ℕ, ◌≤◌, ◌==◌, Bool, true, false, List, [], ◌∷◌, length, Option, Some, None, cond, arith}
 use Rattle.std.specs.Prelude.{filter}
-use Rattle.std.proofs.lemmas.Bool.Decides.{Decides-eqb}
 use Rattle.base_names.specs.declared.id.BatchId.{BatchId}
 use Rattle.base_names.specs.declared.node.Waiter.TheVariants as waits
 use Rattle.model_data.specs.declared.batch.BatchRow.{BatchRow}
 use Rattle.table_defs.specs.Keyed.{IsKeyed, rows_for}
 use Rattle.table_defs.specs.Names.{is_id}
-use Rattle.table_defs.specs.Table.{Table, submitted}
+use Rattle.table_defs.specs.Table.{Table}
 use Rattle.cluster_defs.specs.Cluster.{Waiting}
-use Rattle.cluster_defs.specs.Listing.{by_id, sorted_in}
+use Rattle.cluster_defs.specs.Listing.{by_id, is_going_on, sorted_in}
 use Rattle.cluster_defs.specs.Opened.{all_waiting, mounted, opened}
 use Rattle.cluster_defs.specs.Placement.{enqueue}
 use Rattle.cluster_defs.specs.Site.{Site}
@@ -18,6 +17,7 @@ use Rattle.table_defs.proofs.Lists.{fewer, filter_filter}
 use Rattle.table_defs.proofs.Names.{and_both}
 use Rattle.cluster_laws.proofs.Lists.{find_head, head_of, no_length}
 use Rattle.cluster_laws.proofs.Standing.{placing_is_sound}
+use Rattle.cluster_laws.proofs.Waiters.{same_number}
 use Rattle.cluster_laws.proofs.SoundCommands.{enqueue_other, enqueue_own}
 
 -- ---- sorting keeps what is there
@@ -74,32 +74,26 @@ waiting_one id (r ∷ rows) ws row h none = one_then id r rows ws row (is_id id 
 
 -- ---- how each batch stands
 
-abbrev going : BatchRow → Bool
-going row = row.status == submitted
-
-same_attempt : (n : ℕ) → (n == n) ≡ true
-same_attempt n = (Decides-eqb n n).1 refl
-
-goes_by : (id : BatchId) (sorted : List BatchRow) (row : BatchRow) (b : Bool) → going row ≡ b → rows_for id sorted ≡ cond b (row ∷ []) [] → Stands (Some row) [] (waiting_for id (all_waiting sorted []))
-goes_by id sorted row true is h = subst (λ (ws : List Waiting). Stands (Some row) [] ws) (sym (waiting_one id sorted [] row h refl)) (and_both (going row) (row.attempt == row.attempt) is (same_attempt row.attempt))
+goes_by : (id : BatchId) (sorted : List BatchRow) (row : BatchRow) (b : Bool) → is_going_on row ≡ b → rows_for id sorted ≡ cond b (row ∷ []) [] → Stands (Some row) [] (waiting_for id (all_waiting sorted []))
+goes_by id sorted row true is h = subst (λ (ws : List Waiting). Stands (Some row) [] ws) (sym (waiting_one id sorted [] row h refl)) (and_both (is_going_on row) (row.attempt == row.attempt) is (same_number row.attempt))
 goes_by id sorted row false is h = subst (λ (ws : List Waiting). Stands (Some row) [] ws) (sym (waiting_none id sorted [] h)) is
 
-stands_by : (id : BatchId) (sorted : List BatchRow) (own : List BatchRow) → length own ≤ 1 → rows_for id sorted ≡ filter going own → Stands (head_of own) [] (waiting_for id (all_waiting sorted []))
+stands_by : (id : BatchId) (sorted : List BatchRow) (own : List BatchRow) → length own ≤ 1 → rows_for id sorted ≡ filter is_going_on own → Stands (head_of own) [] (waiting_for id (all_waiting sorted []))
 stands_by id sorted [] one h = subst (λ (ws : List Waiting). Stands None [] ws) (sym (waiting_none id sorted [] h)) refl
-stands_by id sorted (row ∷ []) one h = goes_by id sorted row (going row) refl h
+stands_by id sorted (row ∷ []) one h = goes_by id sorted row (is_going_on row) refl h
 stands_by id sorted (row ∷ next ∷ rows) one h = absurd (omega (arith, one))
 
-few_going : (own : List BatchRow) → length own ≤ 1 → length (filter going own) ≤ 1
-few_going own one = let f = fewer going own in omega (arith, f, one)
+few_going : (own : List BatchRow) → length own ≤ 1 → length (filter is_going_on own) ≤ 1
+few_going own one = let f = fewer is_going_on own in omega (arith, f, one)
 
 mounted_is_sound : (k : Site) (t : Table) (end : ℕ) → IsKeyed t → EachStands (mounted k t end)
 mounted_is_sound k t end o id =
     let own = rows_for id t.rows in
-    let e : rows_for id (filter going t.rows) ≡ filter going own = filter_filter (λ (row : BatchRow). is_id id row.id) going t.rows in
-    let few : length (rows_for id (filter going t.rows)) ≤ 1 = subst (λ (rows : List BatchRow). length rows ≤ 1) (sym e) (few_going own (o.single id)) in
-    let s = by_id_same (λ (row : BatchRow). is_id id row.id) (filter going t.rows) few in
-    subst (λ (row : Option BatchRow). Stands row [] (waiting_for id (all_waiting (by_id (filter going t.rows)) []))) (sym (find_head (λ row. is_id id row.id) t.rows))
-    (stands_by id (by_id (filter going t.rows)) own (o.single id) (s ∙ e))
+    let e : rows_for id (filter is_going_on t.rows) ≡ filter is_going_on own = filter_filter (λ (row : BatchRow). is_id id row.id) is_going_on t.rows in
+    let few : length (rows_for id (filter is_going_on t.rows)) ≤ 1 = subst (λ (rows : List BatchRow). length rows ≤ 1) (sym e) (few_going own (o.single id)) in
+    let s = by_id_same (λ (row : BatchRow). is_id id row.id) (filter is_going_on t.rows) few in
+    subst (λ (row : Option BatchRow). Stands row [] (waiting_for id (all_waiting (by_id (filter is_going_on t.rows)) []))) (sym (find_head (λ row. is_id id row.id) t.rows))
+    (stands_by id (by_id (filter is_going_on t.rows)) own (o.single id) (s ∙ e))
 
 pub opened_is_good : (k : Site) (t : Table) (end : ℕ) → IsKeyed t → IsSound (opened k t end)
 opened_is_good k t end o = record { sound = placing_is_sound (mounted k t end) (mounted_is_sound k t end o); numbered = o.numbered }

@@ -1,5 +1,5 @@
 -- Each deed keeps a cluster sound.
-use Rattle.std.proofs.Common.{◌≡◌, refl, sym, ap, ◌∙◌, subst, ℕ, ◌+◌, ◌<◌, ◌≤◌, ◌==◌, Bool, true, false, not, List, Option, Some, None, cond, arith}
+use Rattle.std.proofs.Common.{◌≡◌, refl, sym, ap, ◌∙◌, subst, ℕ, ◌+◌, ◌<◌, ◌==◌, Bool, true, false, not, List, Option, Some, None, cond, arith}
 use Rattle.std.specs.Prelude.{nat_le, option_map}
 use Rattle.std.proofs.lemmas.Bool.Decides.{Decides-eqb, nat_tests}
 use Rattle.base_names.specs.declared.id.BatchId.{BatchId}
@@ -24,6 +24,7 @@ use Rattle.cluster_defs.specs.Site.{Site}
 use Rattle.cluster_laws.specs.Sound.{EachStands, IsSound, Stands, is_going, placed_for, waiting_for, waits_for}
 use Rattle.cluster_defs.specs.Step.{asked_with, count_reply, step, still_open, with_result, with_returned, with_taken, within_limit}
 use Rattle.cluster_defs.specs.Waiters.{is_waiter}
+use Rattle.table_defs.proofs.Keyed.{no_old}
 use Rattle.table_defs.proofs.Lists.{filter_others, find_push}
 use Rattle.table_defs.proofs.Names.{and_left, and_right, id_refl}
 use Rattle.table_defs.proofs.Rows.{IsNumbered, numbered_kept, numbered_with, row_new, row_with, wanted_row}
@@ -39,15 +40,11 @@ use Rattle.cluster_defs.specs.Asks as asks
 use Rattle.cluster_laws.proofs.SoundCommands.{beginning_is_sound, discard_is_sound, ending_is_sound, enqueue_other, failing_is_sound, stands_same}
 
 -- the number that an owner gets next has no row
-fresh_by : (id : BatchId) (t : Table) (found : Option BatchRow) → row_of id t ≡ found → greatest id.owner t < id.number → IsNumbered t → row_of id t ≡ None
-fresh_by id t None is new numbered = is
-fresh_by id t (Some row) is new numbered = let old : id.number ≤ greatest id.owner t = numbered id row is in absurd (omega arith)
-
 next_new : (n : ℕ) → n < n + 1
 next_new n = omega arith
 
 fresh : (o : List ℕ) (t : Table) → IsNumbered t → row_of (next_id o t) t ≡ None
-fresh o t numbered = fresh_by (next_id o t) t (row_of (next_id o t) t) refl (next_new (greatest o t)) numbered
+fresh o t numbered = no_old (next_id o t) t (row_of (next_id o t) t) refl (next_new (greatest o t)) numbered
 
 created_row : (id : BatchId) (body : BatchBody) (t : Table) → row_of id t ≡ None → still_open 1 (row_of id (applied (is.Create id 1 body) t)) ≡ true
 created_row id body t none = ap (still_open 1) (find_push (λ row. is_id id row.id) (new_row id 1 body) t.rows none ∙ ap (λ (b : Bool). cond b (Some (new_row id 1 body)) None) (id_refl id))

@@ -36,9 +36,6 @@ use Rattle.cluster_laws.proofs.Settling.{result_is_seated, state_from}
 
 -- ---- what a command does to a job that has a node
 
-as_it_was : (j : Job) (js : List Job) → js ≡ j ∷ [] → RunsOn j js
-as_it_was j js is = inl is
-
 one_kept : (j : Job) (b : Bool) → b ≡ false → cond (not b) (j ∷ []) [] ≡ j ∷ []
 one_kept j true h = absurd (grind (arith, h))
 one_kept j false h = refl
@@ -78,13 +75,13 @@ poll_by : (s seat : Seat) (jobs : List Job) (j : Job) (lost : Bool) → jobs_for
 poll_by s seat jobs j true is apart = without_stays s seat jobs j is (apart refl)
 poll_by s seat jobs j false is apart = inl is
 
-marked_by : (j : Job) (b : Bool) → RunsOn j ((if b then record j { marked = true } else j) ∷ [])
-marked_by j true = inr refl
-marked_by j false = inl refl
+runs_marked : (j : Job) (b : Bool) → RunsOn j ((if b then record j { marked = true } else j) ∷ [])
+runs_marked j true = inr refl
+runs_marked j false = inl refl
 
 mark_stays : (s : Seat) (found : Option Job) (jobs : List Job) (j : Job) → jobs_for s jobs ≡ j ∷ [] → RunsOn j (jobs_for s (marked_jobs found jobs))
 mark_stays s None jobs j is = inl is
-mark_stays s (Some job) jobs j is = changed_stays s (λ (x : Job). is_job (id_of job) (id_of x)) (λ (x : Job). record x { marked = true }) jobs j (λ x. refl) is (marked_by j (is_job (id_of job) (id_of j)))
+mark_stays s (Some job) jobs j is = changed_stays s (λ (x : Job). is_job (id_of job) (id_of x)) (λ (x : Job). record x { marked = true }) jobs j (λ x. refl) is (runs_marked j (is_job (id_of job) (id_of j)))
 
 lost_by : (j : Job) (b : Bool) → b ≡ false → RunsOn j ((if b then record j { lost = true } else j) ∷ [])
 lost_by j true h = absurd (grind (arith, h))

@@ -13,7 +13,7 @@ use Rattle.cluster_defs.specs.Waiters.{is_job, is_role, is_seat, is_waiter, owne
 
 -- ---- each is itself
 
-same_number : (n : ℕ) → (n == n) ≡ true
+pub same_number : (n : ℕ) → (n == n) ≡ true
 same_number n = (Decides-eqb n n).1 refl
 
 role_refl : (r : Role) → is_role r r ≡ true

@@ -1,5 +1,5 @@
 -- What rows weigh: no more than the records that made them.
-use Rattle.std.proofs.Common.{◌≡◌, refl, sym, ap, ◌∙◌, ℕ, ◌+◌, ◌*◌, ◌≤◌, ◌==◌, Bool, true, not, List, [], ◌∷◌, ◌++◌, length, Option, Some, None, arith}
+use Rattle.std.proofs.Common.{◌≡◌, refl, sym, ap, ◌∙◌, ℕ, ◌+◌, ◌*◌, ◌≤◌, ◌==◌, Bool, true, not, List, [], ◌∷◌, ◌++◌, length, Some, None, arith}
 use Rattle.std.specs.Prelude.{filter, sum_by}
 use Rattle.std.proofs.lemmas.Bool.Decides.{Decides-eqb}
 use Rattle.std.proofs.lemmas.List.Sums.{sum_by_push}
@@ -17,9 +17,10 @@ use Rattle.table_defs.specs.Table.{Table, aborted, applied, begun, completed, en
 use Rattle.table_defs.specs.Taken.{is_open, on_row, refusal}
 use Rattle.table_defs.proofs.Names.{and_right, id_is}
 use Rattle.table_defs.proofs.Rows.{wanted_row}
+use Rattle.cluster_defs.specs.Listing.{is_going_on}
 use Rattle.cluster_defs.specs.Refusals.{kept_bytes, need, reserve, reserved}
 use Rattle.cluster_defs.specs.Site.{Site}
-use Rattle.cluster_laws.specs.Bounds.{IsWritten, result_bytes, row_bytes}
+use Rattle.cluster_laws.specs.Bounds.{IsWritten, row_bytes}
 use Rattle.cluster_laws.proofs.Lists.{found_passes}
 use Rattle.cluster_laws.proofs.Sums.{fewer_changed, one_more, sum_changed, sum_each, sum_filter, sum_length, sum_one}
 
@@ -27,9 +28,6 @@ use Rattle.cluster_laws.proofs.Sums.{fewer_changed, one_more, sum_changed, sum_e
 
 abbrev pub weight : Site → Table → ℕ
 weight k t = sum_by (row_bytes k) t.rows
-
-none_less : (k : Site) (a b : ℕ) (row : BatchRow) (found : Option BatchResult) → a + 0 ≤ a + result_bytes k row found
-none_less k a b row found = omega arith
 
 ended_weighs : (k : Site) (status : ℕ) (row : BatchRow) → row_bytes k (ended status None row) ≤ row_bytes k row
 ended_weighs k status row = omega arith
@@ -95,16 +93,13 @@ kept_weighs k u t written =
 
 -- ---- how many go on
 
-abbrev going : BatchRow → Bool
-going row = row.status == submitted
+abbrev pub going_on : Table → ℕ
+going_on t = length (filter is_going_on t.rows)
 
-abbrev count : Table → ℕ
-count t = length (filter going t.rows)
-
-fewer_lost : (items : List AttemptOf) (t : Table) → count (lost items t) ≤ count t
+fewer_lost : (items : List AttemptOf) (t : Table) → going_on (lost items t) ≤ going_on t
 fewer_lost [] t = omega arith
 fewer_lost (item ∷ items) t =
-    let a = fewer_changed going (λ row. is_id item.id row.id) (ended lost_status None) (λ row. refl) t.rows in
+    let a = fewer_changed is_going_on (λ row. is_id item.id row.id) (ended lost_status None) (λ row. refl) t.rows in
     let b = fewer_lost items (with_row item.id (ended lost_status None) t) in
     omega (arith, a, b)
 
@@ -117,12 +112,12 @@ dropped p q [] = omega arith
 dropped p q (x ∷ rows) = grind (arith, dropped p q rows)
 
 -- one more at most
-pub record_begins : (r : BatchRecord) (t : Table) → IsKeyed t → count (applied r t) ≤ count t + 1
-record_begins (Create id n body) t o = pushed going t.rows (new_row id n body) refl
-record_begins (Abort id n) t o = lighter _ _ 1 (fewer_changed going (λ row. is_id id row.id) (ended aborted None) (λ row. refl) t.rows)
-record_begins (Discard id) t o = lighter _ _ 1 (dropped going (λ row. not (is_id id row.id)) t.rows)
-record_begins (Retry id n) t o = one_more going (λ row. is_id id row.id) (begun n) t.rows (o.single id)
-record_begins (Finish id n result) t o = lighter _ _ 1 (fewer_changed going (λ row. is_id id row.id) (ended completed (Some result)) (λ row. refl) t.rows)
+pub record_begins : (r : BatchRecord) (t : Table) → IsKeyed t → going_on (applied r t) ≤ going_on t + 1
+record_begins (Create id n body) t o = pushed is_going_on t.rows (new_row id n body) refl
+record_begins (Abort id n) t o = lighter _ _ 1 (fewer_changed is_going_on (λ row. is_id id row.id) (ended aborted None) (λ row. refl) t.rows)
+record_begins (Discard id) t o = lighter _ _ 1 (dropped is_going_on (λ row. not (is_id id row.id)) t.rows)
+record_begins (Retry id n) t o = one_more is_going_on (λ row. is_id id row.id) (begun n) t.rows (o.single id)
+record_begins (Finish id n result) t o = lighter _ _ 1 (fewer_changed is_going_on (λ row. is_id id row.id) (ended completed (Some result)) (λ row. refl) t.rows)
 record_begins (Lost items) t o = lighter _ _ 1 (fewer_lost items t)
 record_begins (Next id) t o = omega arith
 

@@ -15,14 +15,14 @@ use Rattle.cluster_defs.proofs.Scenes.{ada, batch, body, seat, site, work}
 use Rattle.cluster_laws.proofs.Faults.{all_counted}
 
 -- Three calls failed before the first opening, one in its entry, and two more until the next.
-abbrev failing : Entry
-failing = record { deed = Asked (seat 1 ada) (asks.Create body); placed = []; reply = answers.Reply (tells.Refused (DISK 3 4)); before = 3; after = 4 }
+abbrev refused_entry : Entry
+refused_entry = record { deed = Asked (seat 1 ada) (asks.Create body); placed = []; reply = answers.Reply (tells.Refused (DISK 3 4)); before = 3; after = 4 }
 
-abbrev making : Entry
-making = record { deed = Asked (seat 1 ada) (asks.Create body); placed = work (batch ada 1) 1 1 ∷ []; reply = answers.Reply (tells.Made (batch ada 1)); before = 6; after = 6 }
+abbrev made_entry : Entry
+made_entry = record { deed = Asked (seat 1 ada) (asks.Create body); placed = work (batch ada 1) 1 1 ∷ []; reply = answers.Reply (tells.Made (batch ada 1)); before = 6; after = 6 }
 
 abbrev openings : List Opening
-openings = record { end = 8; faults = 3; history = failing ∷ []; returned = []; under_way = None } ∷ record { end = 8; faults = 6; history = making ∷ []; returned = []; under_way = None } ∷ []
+openings = record { end = 8; faults = 3; history = refused_entry ∷ []; returned = []; under_way = None } ∷ record { end = 8; faults = 6; history = made_entry ∷ []; returned = []; under_way = None } ∷ []
 
 legal : AreLegal (site 1 1 0) openings
 unfolding is_owner is_id is_seat is_node
@@ -31,5 +31,5 @@ legal = ((no_rows, (tt, record { may = refl; placed = refl; reply = refl; later 
 one_disk : AreOfOneDisk 3 openings
 one_disk = (omega arith, (omega arith, tt))
 
-counted : AreCounted 3 (failing ∷ making ∷ [])
-counted = all_counted (site 1 1 0) 3 openings legal one_disk
+its_faults_are_counted : AreCounted 3 (refused_entry ∷ made_entry ∷ [])
+its_faults_are_counted = all_counted (site 1 1 0) 3 openings legal one_disk

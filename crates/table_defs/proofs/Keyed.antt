@@ -36,7 +36,8 @@ single_without id t single a =
     let f = fewer (λ (row : BatchRow). not (is_id id row.id)) (rows_for a t.rows) in
     omega (arith, e, f, single a)
 
-no_old : (id : BatchId) (t : Table) (found : Option BatchRow) → row_of id t ≡ found → greatest id.owner t < id.number → IsNumbered t → row_of id t ≡ None
+-- the number of a new batch has no row
+pub no_old : (id : BatchId) (t : Table) (found : Option BatchRow) → row_of id t ≡ found → greatest id.owner t < id.number → IsNumbered t → row_of id t ≡ None
 no_old id t None is new numbered = is
 no_old id t (Some row) is new numbered = let old : id.number ≤ greatest id.owner t = numbered id row is in absurd (omega arith)
 

@@ -15,7 +15,7 @@ use Rattle.table_defs.specs.Names.{Owner, is_id, is_owner}
 use Rattle.table_defs.specs.Table.{Mark, Table, aborted, applied, begun, completed, ended, failed, greatest, lost, new_row, no_rows, number_of, row_of, with_mark, with_row, without_row}
 use Rattle.table_defs.specs.Taken.{on_row, refusal, unless}
 use Rattle.table_defs.proofs.Lists.{find_filter, find_push}
-use Rattle.table_defs.proofs.Names.{bool_off, id_apart, id_is, not_both, owner_is, owner_refl}
+use Rattle.table_defs.proofs.Names.{bool_off, id_apart, id_is, owner_is, owner_refl, owner_without}
 
 -- ---- look-ups in a changed list
 
@@ -40,9 +40,6 @@ find_none test (x ∷ xs) = grind (arith, find_none test xs)
 
 -- ---- rows and numbers of a changed table
 
-owner_apart : (a b c : Owner) → is_owner a b ≡ false → is_owner a c ≡ true → is_owner b c ≡ false
-owner_apart a b c apart same = bool_off (is_owner b c) (λ h. let e : b ≡ a = owner_is b c h ∙ sym (owner_is a c same) in absurd (not_both (ap (is_owner a) e ∙ owner_refl a) apart))
-
 pub row_with : (a id : BatchId) (f : BatchRow → BatchRow) (t : Table) (b : Bool) → is_id a id ≡ b → ((row : BatchRow) → (f row).id ≡ row.id) → row_of a (with_row id f t) ≡ cond b (option_map f (row_of a t)) (row_of a t)
 row_with a id f t true same stays = subst (λ (i : BatchId). row_of a (with_row i f t) ≡ option_map f (row_of a t)) (id_is a id same) (find_changed (λ row. is_id a row.id) f (λ row. ap (is_id a) (stays row)) t.rows)
 row_with a id f t false apart stays = find_changed_other (λ row. is_id a row.id) (λ row. is_id id row.id) f (λ row. ap (is_id a) (stays row)) (λ row same. id_apart a id row.id apart same) t.rows
@@ -58,7 +55,7 @@ pub mark_raised : (o : Owner) (id : BatchId) (marks : List Mark) (b : Bool) → 
 mark_raised o id marks true same = ap number_of (find_push (λ mark. is_owner o mark.owner) (record { owner = id.owner; number = id.number }) (filter (λ mark. not (is_owner id.owner mark.owner)) marks)
     (subst (λ (p : Owner). find (λ mark. is_owner o mark.owner) (filter (λ mark. not (is_owner p mark.owner)) marks) ≡ None) (owner_is o id.owner same) (find_none (λ mark. is_owner o mark.owner) marks)) ∙ find_one (λ mark. is_owner o mark.owner) (record { owner = id.owner; number = id.number }) same)
 mark_raised o id marks false apart = ap number_of (find_push_other (λ mark. is_owner o mark.owner) (record { owner = id.owner; number = id.number }) apart (filter (λ mark. not (is_owner id.owner mark.owner)) marks)
-    ∙ find_filter (λ mark. not (is_owner id.owner mark.owner)) (λ mark. is_owner o mark.owner) (λ mark same. ap not (owner_apart o id.owner mark.owner apart same)) marks)
+    ∙ find_filter (λ mark. not (is_owner id.owner mark.owner)) (λ mark. is_owner o mark.owner) (λ mark same. ap not (owner_without o id.owner mark.owner apart same)) marks)
 
 -- ---- what is wanted of a row
 
