@@ -87,8 +87,11 @@ ask s a ps r = record { deed = Asked s a; placed = ps; reply = answers.Reply r }
 abbrev pub refused : Seat → Ask → Refusal → Line
 refused s a r = ask s a [] (tells.Refused r)
 
+abbrev pub took_by : ℕ → BatchId → ℕ → Line
+took_by worker id attempt = record { deed = Took worker id attempt; placed = []; reply = answers.Took }
+
 abbrev pub took : BatchId → ℕ → Line
-took id attempt = record { deed = Took 1 id attempt; placed = []; reply = answers.Took }
+took id attempt = took_by 1 id attempt
 
 abbrev pub finished : BatchId → ℕ → List Placed → FinishReply → Line
 finished id attempt ps r = record { deed = Finished id attempt found; placed = ps; reply = answers.Finish r }

@@ -16,7 +16,7 @@ use Rattle.cluster_defs.specs.Placement.{place}
 use Rattle.table_defs.specs.Owned.{table_of}
 use Rattle.cluster_defs.specs.Replies as tells
 use Rattle.cluster_defs.specs.Waiters.{is_node, is_seat}
-use Rattle.cluster_defs.proofs.Scenes.{AreTold, AreToldBehind, Line, ada, admin, ask, batch, bob, body, cluster_by, entry, finished, found, left, node, refused, seat, site, took, work}
+use Rattle.cluster_defs.proofs.Scenes.{AreTold, AreToldBehind, Line, ada, admin, ask, batch, bob, body, cluster_by, entry, finished, found, left, node, refused, seat, site, took, took_by, work}
 
 -- A worker's result comes too late for an attempt that its owner has aborted, and is kept for the next one.
 abort_and_retry : AreTold (site 1 2 0) (
@@ -53,19 +53,21 @@ late : AreTold (site 1 2 0) (
 unfolding is_owner is_id is_seat is_node
 late = (refl, refl)
 
--- What is given back keeps its place, and may be taken again.
-back_again : AreTold (site 1 1 0) (
+-- What is given back keeps its place, and is taken again before what was placed later.
+back_again : AreTold (site 1 2 0) (
     ask (seat 1 ada) (asks.Create body) (work (batch ada 1) 1 1 ∷ []) (tells.Made (batch ada 1))
-    ∷ took (batch ada 1) 1
+    ∷ ask (seat 2 bob) (asks.Create body) (work (batch bob 1) 1 1 ∷ []) (tells.Made (batch bob 1))
+    ∷ took_by 1 (batch ada 1) 1
     ∷ left (batch ada 1) 1 [] Back
-    ∷ took (batch ada 1) 1
+    ∷ took_by 2 (batch ada 1) 1
+    ∷ took_by 1 (batch bob 1) 1
     ∷ finished (batch ada 1) 1 [] Kept
     ∷ left (batch ada 1) 1 [] (Late (Some completed))
     ∷ [])
 unfolding is_owner is_id is_seat is_node
 back_again = (refl, refl)
 
--- Two owners who both get number 1, each with a worker. What the first gave back is taken before all that was placed later.
+-- Two owners who both get number 1, each with a worker; what the first one gave back a third one takes.
 same_number : AreTold (site 1 2 0) (
     ask (seat 1 ada) (asks.Create body) (work (batch ada 1) 1 1 ∷ []) (tells.Made (batch ada 1))
     ∷ ask (seat 2 bob) (asks.Create body) (work (batch bob 1) 1 1 ∷ []) (tells.Made (batch bob 1))
@@ -75,10 +77,10 @@ same_number : AreTold (site 1 2 0) (
     record { waiter = waits.Batch (batch ada 1) 1; owner = ada; priority = pos 0; node = Some (node 1) }
     ∷ record { waiter = waits.Batch (batch bob 1) 1; owner = bob; priority = pos 0; node = Some (node 1) }
     ∷ []))
-    ∷ took (batch ada 1) 1
-    ∷ took (batch bob 1) 1
+    ∷ took_by 1 (batch ada 1) 1
+    ∷ took_by 2 (batch bob 1) 1
     ∷ left (batch ada 1) 1 [] Back
-    ∷ took (batch ada 1) 1
+    ∷ took_by 3 (batch ada 1) 1
     ∷ finished (batch ada 1) 1 [] Kept
     ∷ ask (seat 1 ada) (asks.Discard (batch ada 1)) [] tells.Done
     ∷ refused (seat 1 ada) (asks.Status (batch ada 1)) BATCH
@@ -131,7 +133,22 @@ by_owner : place (mounted (site 1 1 0) (after (is.Create (batch bob 1) 1 body �
 unfolding is_owner is_id is_seat is_node
 by_owner = refl
 
--- What was lost with its node stays so.
+-- the number of a batch that is gone is not given again, also when the cluster is opened again
+number_gone : AreToldBehind (site 1 2 0) (is.Create (batch ada 1) 1 body ∷ is.Abort (batch ada 1) 1 ∷ is.Discard (batch ada 1) ∷ []) (
+    ask (seat 1 ada) asks.Listing [] (tells.Rows [])
+    ∷ ask (seat 1 ada) (asks.Create body) (work (batch ada 2) 1 1 ∷ []) (tells.Made (batch ada 2))
+    ∷ [])
+unfolding is_owner is_id is_seat is_node
+number_gone = (refl, refl)
+
+-- What is found when the cluster is opened is lost with its node, and stays so when it is opened again.
+failed_there : AreToldBehind (site 1 2 0) (is.Create (batch ada 1) 1 body ∷ []) (
+    ask admin (asks.Fail (node 1)) [] tells.Done
+    ∷ ask (seat 1 ada) (asks.Status (batch ada 1)) [] (tells.Status (batch ada 1) failed)
+    ∷ [])
+unfolding is_owner is_id is_seat is_node
+failed_there = (refl, refl)
+
 failed_again : AreToldBehind (site 1 2 0) (is.Create (batch ada 1) 1 body ∷ is.Lost (record { id = batch ada 1; attempt = 1 } ∷ []) ∷ []) (
     ask (seat 1 ada) (asks.Status (batch ada 1)) [] (tells.Status (batch ada 1) failed)
     ∷ ask (seat 1 ada) (asks.Retry (batch ada 1)) (work (batch ada 1) 2 1 ∷ []) tells.Done

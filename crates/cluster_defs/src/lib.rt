@@ -12,7 +12,7 @@
 //!   hub without nodes needs. `Looks`: whether a job was cut.
 //! - `Opened`, `Told`, `Legal`: a cluster as it is opened, and which entries may follow.
 //! - `Part`, `Reading`, `Own`, `OwnHistory`: what is one owner's, and the replies that follow from that alone.
-//! - `Journal`, `Life`, `Plain`, `Room`: records through openings and stops.
+//! - `Journal`, `Life`, `Ends`, `Plain`, `Room`: records through openings and stops. `Counted`: the disk's faults through them.
 //!
 //! Histories at hand, with what is placed and answered line by line, are in `proofs/WorkedJobs.antt`, `WorkedBatches.antt` and `WorkedLimits.antt`:
 //! they fix these definitions value for value. What holds in every history is said in the crate `cluster_laws`.
