@@ -1,5 +1,5 @@
 -- Words for histories at hand: sites, seats, deeds with what is placed and answered.
-use Rattle.std.proofs.Common.{◌≡◌, ℕ, Bool, true, ◌&&◌, [], ◌∷◌, map, List, None, codes}
+use Rattle.std.proofs.Common.{◌≡◌, ℕ, ℤ, Bool, true, ◌&&◌, [], ◌∷◌, map, List, None, codes}
 use Rattle.base_names.specs.declared.id.BatchId.{BatchId}
 use Rattle.base_names.specs.declared.node.NodeNo.{NodeNo}
 use Rattle.base_names.specs.declared.node.Placed.{Placed}
@@ -36,6 +36,10 @@ found = record { outcome = record { status = 2; pivots = 0; nodes = 1; work = 0;
 
 abbrev pub body : BatchBody
 body = record { model = record { direction = Minimize; constant = zero_value; vars = []; rows = [] }; params = usual_params }
+
+-- of this priority
+abbrev pub body_at : ℤ → BatchBody
+body_at priority = record body { params = record usual_params { priority = priority } }
 
 -- where each record takes 100 bytes, and each model 50
 abbrev pub limited : ℕ → ℕ → ℕ → Limits → Site

@@ -1,12 +1,13 @@
 -- Histories of batches and of their owners, with what is placed and answered.
-use Rattle.std.proofs.Common.{◌≡◌, refl, List, map, true, false, [], ◌∷◌, Some, None, pos}
+use Rattle.std.proofs.Common.{◌≡◌, refl, Bool, List, map, true, false, [], ◌∷◌, Some, None, pos}
+use Rattle.base_names.specs.declared.node.Waiter.{Waiter}
 use Rattle.base_names.specs.declared.node.Waiter.TheVariants as waits
 use Rattle.base_names.specs.declared.refusal.Refusal.TheVariants.{BATCH, BATCHSTATE}
 use Rattle.table_defs.specs.Names.{is_id, is_owner}
 use Rattle.model_data.specs.declared.batch.BatchRecord.TheVariants as is
 use Rattle.table_defs.specs.Table.{aborted, after, completed, failed, no_rows, submitted}
 use Rattle.cluster_defs.specs.Asks as asks
-use Rattle.cluster_defs.specs.Deeds.{Asked, Back, Kept, Late}
+use Rattle.cluster_defs.specs.Deeds.{Asked, Back, Deed, Kept, Late}
 use Rattle.cluster_defs.specs.Ends.{end_of}
 use Rattle.cluster_defs.specs.Life.{deed_record}
 use Rattle.cluster_defs.specs.Looks.{cut}
@@ -16,7 +17,7 @@ use Rattle.cluster_defs.specs.Placement.{place}
 use Rattle.table_defs.specs.Owned.{table_of}
 use Rattle.cluster_defs.specs.Replies as tells
 use Rattle.cluster_defs.specs.Waiters.{is_node, is_seat}
-use Rattle.cluster_defs.proofs.Scenes.{AreTold, AreToldBehind, Line, ada, admin, ask, batch, bob, body, cluster_by, entry, finished, found, left, node, refused, seat, site, took, took_by, work}
+use Rattle.cluster_defs.proofs.Scenes.{AreTold, AreToldBehind, Line, ada, admin, ask, batch, bob, body, body_at, cluster_by, entry, finished, found, job, left, node, refused, seat, site, took, took_by, work}
 
 -- A worker's result comes too late for an attempt that its owner has aborted, and is kept for the next one.
 abort_and_retry : AreTold (site 1 2 0) (
@@ -133,6 +134,31 @@ by_owner : place (mounted (site 1 1 0) (after (is.Create (batch bob 1) 1 body �
 unfolding is_owner is_id is_seat is_node
 by_owner = refl
 
+-- Batches wait by their priorities, among the jobs of seats, after a retry too; and at priority 100 one passes the limit.
+by_priority : AreTold (site 1 1 0) (
+    ask (seat 1 ada) (asks.Job (pos 0)) (job (seat 1 ada) 1 1 ∷ []) (tells.Job 1 (Some (node 1)))
+    ∷ ask (seat 2 ada) (asks.Create body) [] (tells.Made (batch ada 1))
+    ∷ ask (seat 2 ada) (asks.Create (body_at (pos 7))) [] (tells.Made (batch ada 2))
+    ∷ ask (seat 3 bob) (asks.Job (pos 5)) [] (tells.Job 1 None)
+    ∷ ask (seat 1 ada) asks.Leave (work (batch ada 2) 1 1 ∷ []) tells.Done
+    ∷ ask (seat 2 ada) (asks.Abort (batch ada 2)) (job (seat 3 bob) 1 1 ∷ []) tells.Done
+    ∷ ask (seat 2 ada) (asks.Retry (batch ada 2)) [] tells.Done
+    ∷ ask (seat 3 bob) asks.Leave (work (batch ada 2) 2 1 ∷ []) tells.Done
+    ∷ ask (seat 2 ada) (asks.Create (body_at (pos 100))) (work (batch ada 3) 1 1 ∷ []) (tells.Made (batch ada 3))
+    ∷ ask admin asks.Jobs [] (tells.Jobs (
+    record { waiter = waits.Batch (batch ada 1) 1; owner = ada; priority = pos 0; node = None }
+    ∷ record { waiter = waits.Batch (batch ada 2) 2; owner = ada; priority = pos 7; node = Some (node 1) }
+    ∷ record { waiter = waits.Batch (batch ada 3) 1; owner = ada; priority = pos 100; node = Some (node 1) }
+    ∷ []))
+    ∷ [])
+unfolding is_owner is_id is_seat is_node
+by_priority = (refl, refl)
+
+-- and when the cluster is opened
+opened_by_priority : place (mounted (site 1 1 0) (after (is.Create (batch ada 1) 1 body ∷ is.Create (batch ada 2) 1 (body_at (pos 7)) ∷ []) no_rows) 218) ≡ work (batch ada 2) 1 1 ∷ []
+unfolding is_owner is_id is_seat is_node
+opened_by_priority = refl
+
 -- the number of a batch that is gone is not given again, also when the cluster is opened again
 number_gone : AreToldBehind (site 1 2 0) (is.Create (batch ada 1) 1 body ∷ is.Abort (batch ada 1) 1 ∷ is.Discard (batch ada 1) ∷ []) (
     ask (seat 1 ada) asks.Listing [] (tells.Rows [])
@@ -162,9 +188,35 @@ lost_in_order : deed_record (cluster_by (site 1 2 0) (Asked (seat 1 ada) (asks.C
 unfolding is_owner is_id is_seat is_node
 lost_in_order = refl
 
--- A seat's look says yes where its job is gone, lost or marked, and for an attempt where it has ended.
-looks : (cut no_rows [] (waits.Seat record { seat = seat 1 ada; number = 1 }) ≡ true)
-    × (cut (cluster_by (site 1 1 0) (Asked (seat 1 ada) (asks.Create body) ∷ [])).table [] (waits.Batch (batch ada 1) 1) ≡ false)
-    × (cut (cluster_by (site 1 1 0) (Asked (seat 1 ada) (asks.Create body) ∷ Asked (seat 1 ada) (asks.Abort (batch ada 1)) ∷ [])).table [] (waits.Batch (batch ada 1) 1) ≡ true)
+-- ---- looks
+
+abbrev cut_behind : List Deed → Waiter → Bool
+cut_behind deeds w = let c = cluster_by (site 2 1 0) deeds in cut c.table c.jobs w
+
+abbrev first_job : Waiter
+first_job = waits.Seat record { seat = seat 1 ada; number = 1 }
+
+abbrev job_runs : Deed
+job_runs = Asked (seat 1 ada) (asks.Job (pos 0))
+
+-- A job is cut where it is gone, another one by now, marked or lost.
+jobs_cut : (cut_behind (job_runs ∷ []) first_job ≡ false)
+    × (cut_behind [] first_job ≡ true)
+    × (cut_behind (job_runs ∷ Asked (seat 1 ada) asks.Leave ∷ job_runs ∷ []) first_job ≡ true)
+    × (cut_behind (job_runs ∷ Asked admin (asks.AbortJob 1 1) ∷ []) first_job ≡ true)
+    × (cut_behind (job_runs ∷ Asked admin (asks.Fail (node 1)) ∷ []) first_job ≡ true)
+    × (cut_behind (job_runs ∷ Asked admin (asks.Fail (node 2)) ∷ []) first_job ≡ false)
 unfolding is_owner is_id is_seat is_node
-looks = (refl, refl, refl)
+jobs_cut = (refl, refl, refl, refl, refl, refl)
+
+abbrev batch_runs : Deed
+batch_runs = Asked (seat 1 ada) (asks.Create body)
+
+-- An attempt is cut where it has ended, also where a later one goes on.
+attempts_cut : (cut_behind (batch_runs ∷ []) (waits.Batch (batch ada 1) 1) ≡ false)
+    × (cut_behind (batch_runs ∷ Asked (seat 1 ada) (asks.Abort (batch ada 1)) ∷ []) (waits.Batch (batch ada 1) 1) ≡ true)
+    × (cut_behind (batch_runs ∷ Asked admin (asks.Fail (node 1)) ∷ Asked (seat 1 ada) (asks.Retry (batch ada 1)) ∷ []) (waits.Batch (batch ada 1) 1) ≡ true)
+    × (cut_behind (batch_runs ∷ Asked admin (asks.Fail (node 1)) ∷ Asked (seat 1 ada) (asks.Retry (batch ada 1)) ∷ []) (waits.Batch (batch ada 1) 2) ≡ false)
+    × (cut_behind [] (waits.Batch (batch ada 1) 1) ≡ true)
+unfolding is_owner is_id is_seat is_node
+attempts_cut = (refl, refl, refl, refl, refl)

@@ -10,9 +10,10 @@ use Rattle.cluster_defs.specs.Told.{told}
 use Rattle.table_defs.specs.Table.{aborted, after, no_rows, submitted}
 use Rattle.cluster_defs.specs.Asks as asks
 use Rattle.cluster_defs.specs.Asks.{Ask}
-use Rattle.cluster_defs.specs.Deeds.{Asked, Deed, Disk, Faults, Finished}
+use Rattle.cluster_defs.specs.Deeds.{Asked, Deed, Disk, Faults, Finished, Took}
 use Rattle.cluster_defs.specs.Entries as answers
 use Rattle.cluster_defs.specs.Entries.{EntryReply}
+use Rattle.cluster_defs.specs.Legal.{next_work}
 use Rattle.cluster_defs.specs.Life.{deed_record}
 use Rattle.cluster_defs.specs.Opened.{opened}
 use Rattle.cluster_defs.specs.Replies as tells
@@ -177,16 +178,17 @@ disk : ((faulted (opened (site 1 1 0) no_rows 8) (Asked (seat 1 ada) (asks.Creat
 unfolding is_owner is_id is_seat is_node
 disk = (refl, refl, (refl, refl))
 
--- A result that it refused is placed as before, and so is what runs on a node that could not be failed. A node on which no
--- attempt runs is failed without the disk.
+-- A result that it refused is placed as before, and may be taken again. What runs on a node that could not be failed runs on.
+-- A node on which no attempt runs is failed without the disk.
 kept_back : ((faulted one_runs (Finished (batch ada 1) 1 found)).reply ≡ answers.Finish (Disk 3 4))
     × ((faulted one_runs (Finished (batch ada 1) 1 found)).next.placed ≡ one_runs.placed)
+    × (next_work (faulted (cluster_by (site 1 1 0) (Asked (seat 1 ada) (asks.Create body) ∷ Took 1 (batch ada 1) 1 ∷ [])) (Finished (batch ada 1) 1 found)).next ≡ Some record { id = batch ada 1; attempt = 1; node = node 1 })
     × ((faulted one_runs (Asked admin (asks.Fail (node 1)))).reply ≡ answers.Reply (tells.Refused (DISK 3 4)))
     × ((faulted one_runs (Asked admin (asks.Fail (node 1)))).next.placed ≡ one_runs.placed)
     × ((faulted one_runs (Asked admin (asks.Fail (node 1)))).next.nodes ≡ one_runs.nodes)
     × (deed_record (opened (site 1 1 0) no_rows 8) (Asked admin (asks.Fail (node 1))) ≡ None)
 unfolding is_owner is_id is_seat is_node
-kept_back = (refl, refl, refl, refl, refl, refl)
+kept_back = (refl, refl, refl, refl, refl, refl, refl)
 
 -- ---- which refusal comes first
 
