@@ -23,6 +23,7 @@ use Rattle.search_laws.proofs.Ranges.{ranges_some}
 use Rattle.relaxation_laws.proofs.LowestForm.{form_reduced}
 use Rattle.relaxation_laws.proofs.Shown.{relaxation_law}
 use Rattle.pivot_laws.proofs.Stages.{few_pivots}
+use Rattle.node_laws.specs.Bounds.{KeepsBounds}
 use Rattle.node_laws.proofs.Sizes.{closed, same_columns, same_rows}
 
 -- each relaxation takes fewer pivots than the root's bound
@@ -38,15 +39,15 @@ nodes_are m = one_less (ranges_from 0 m.vars []) (ranges_some 0 m.vars [])
     one_less : (n : ℕ) → 0 < n → suc (2 * (n - 1)) ≡ 2 * n - 1
     one_less n some = omega (arith, some)
 
-pub few_nodes : (m : Model) (p : Params) (k : ℕ) → IsLawful m → HasKeptNumbers m → has_open m ≡ false → (plain_cut m p k).outcome.nodes ≤ nodes_of m
+few_nodes : (m : Model) (p : Params) (k : ℕ) → IsLawful m → HasKeptNumbers m → has_open m ≡ false → (plain_cut m p k).outcome.nodes ≤ nodes_of m
 few_nodes m p k lawful kept shut =
     subst (λ n. (plain_cut m p k).outcome.nodes ≤ n) (nodes_are m) (closed_counts m p k (relaxation_law m lawful kept) (closed m shut)).nodes
 
-pub nodes_suffice : (m : Model) (p : Params) (k : ℕ) → IsLawful m → HasKeptNumbers m → HasEnoughNodes m p → (plain_cut m p k).outcome.status ≢ NODE_LIMIT
+nodes_suffice : (m : Model) (p : Params) (k : ℕ) → IsLawful m → HasKeptNumbers m → HasEnoughNodes m p → (plain_cut m p k).outcome.status ≢ NODE_LIMIT
 nodes_suffice m p k lawful kept h =
     (closed_counts m p k (relaxation_law m lawful kept) (closed m h.closed)).enough (subst (λ n. n ≤ p.nodes) (sym (nodes_are m)) h.enough)
 
-pub pivots_suffice : (m : Model) (p : Params) (k : ℕ) → IsLawful m → HasKeptNumbers m → HasEnoughPivots m p → (plain_cut m p k).outcome.status ≢ ITERATION_LIMIT
+pivots_suffice : (m : Model) (p : Params) (k : ℕ) → IsLawful m → HasKeptNumbers m → HasEnoughPivots m p → (plain_cut m p k).outcome.status ≢ ITERATION_LIMIT
 pivots_suffice m p k lawful kept h =
     closed_pivots_suffice m p (pivots_of m) k (relaxation_law m lawful kept) (closed m h.closed) (brief m lawful kept h.closed)
     (subst (λ n. pivots_of m * n ≤ p.iterations) (sym (nodes_are m)) h.enough)
@@ -72,9 +73,17 @@ one_leaf place (v ∷ vars) h =
     ap₂ (λ a b. a * b) (one_value v (own_bounds v) parts.0) (one_leaf (suc place) vars parts.1)
 
 -- the bound of one relaxation alone
-pub root_suffices : (m : Model) (p : Params) (k : ℕ) → IsLawful m → HasKeptNumbers m → has_integers m ≡ false → pivots_of m ≤ p.iterations → (plain_cut m p k).outcome.status ≢ ITERATION_LIMIT
+root_suffices : (m : Model) (p : Params) (k : ℕ) → IsLawful m → HasKeptNumbers m → has_integers m ≡ false → pivots_of m ≤ p.iterations → (plain_cut m p k).outcome.status ≢ ITERATION_LIMIT
 root_suffices m p k lawful kept none enough =
     pivots_suffice m p k lawful kept record {
       closed = none_open m.vars none;
       enough = subst (λ n. pivots_of m * n ≤ p.iterations) (sym (ap (λ n. 2 * n - 1) (one_leaf 0 m.vars none))) (subst (λ n. n ≤ p.iterations) (sym (mul-one (pivots_of m))) enough);
     }
+
+pub bounds_kept : (m : Model) (p : Params) (k : ℕ) → IsLawful m → HasKeptNumbers m → KeepsBounds m p (plain_cut m p k).outcome
+bounds_kept m p k lawful kept = record {
+  count = few_nodes m p k lawful kept;
+  nodes = nodes_suffice m p k lawful kept;
+  pivots = pivots_suffice m p k lawful kept;
+  root = root_suffices m p k lawful kept;
+}
