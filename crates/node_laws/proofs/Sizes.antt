@@ -1,9 +1,8 @@
 -- Cuts of integer variables that have both bounds add no column and no row.
-use Rattle.std.proofs.Common.{◌≡◌, ◌≢◌, ◌∙◌, refl, sym, ap, ap₂, subst, ℕ, suc, ◌+◌, ◌==◌, Bool, true, false, true≢false, IsTrue, ◌&&◌, not, List, [], ◌∷◌, length, map, All, Option, is_some, Some, None, Ok, if◌then◌else◌, arith, ne_eqb}
-use Rattle.std.specs.List.{list_any}
+use Rattle.std.proofs.Common.{◌≡◌, ◌≢◌, ◌∙◌, refl, sym, ap, ap₂, subst, ℕ, suc, ◌+◌, ◌==◌, Bool, true, false, true≢false, IsTrue, ◌&&◌, List, [], ◌∷◌, length, map, All, Option, is_some, Some, None, Ok, if◌then◌else◌, arith, ne_eqb}
 use Rattle.std.specs.Prelude.{sum_by}
-use Rattle.std.proofs.lemmas.Bool.{and_parts, cond_both, or_parts}
-use Rattle.std.proofs.lemmas.List.Elements.{All-cons, All-head, All-nil, All-tail}
+use Rattle.std.proofs.lemmas.Bool.{and_parts, cond_both}
+use Rattle.std.proofs.lemmas.List.Elements.{All-head, All-tail}
 use Rattle.std.proofs.lemmas.List.Sums.{sum_by-cons}
 use Rattle.frac128.specs.Fraction.{Fraction}
 use Rattle.dictionary.specs.declared.standard.Std.{Std}
@@ -16,29 +15,10 @@ use Rattle.solve_defs.specs.Certificates.{is_integer_number}
 use Rattle.solve_defs.specs.StandardForm.{Shape, shape_between, shapes_of, shifted, spans_of, standard_form, width}
 use Rattle.solve_defs.specs.declared.cut.Cut.{Cut}
 use Rattle.solve_defs.proofs.FormSizes.{form-columns}
-use Rattle.limit_defs.specs.Limits.{has_open, is_open, root_columns, root_rows}
-use Rattle.search_laws.specs.Counts.{AreOnIntegers, IsClosed}
+use Rattle.limit_defs.specs.Limits.{has_open, root_columns, root_rows}
+use Rattle.limit_defs.proofs.Open.{closed_where_none}
+use Rattle.search_laws.specs.Counts.{AreOnIntegers}
 use Rattle.node_laws.proofs.Rows.{form_rows}
-
--- ---- variables with both bounds
-
-closed_test : (a b : Bool) → (a && not b) ≡ false → a ≡ true → IsTrue b
-closed_test true true h e = refl
-closed_test true false h e = absurd (true≢false h)
-closed_test false b h e = absurd (true≢false (sym e))
-
--- has both bounds where it is integer
-abbrev Closed : Var → Type 0
-Closed v = is_integer v.kind ≡ true → IsTrue (is_some (own_bounds v).lower && is_some (own_bounds v).upper)
-
-all_closed : (vars : List Var) → list_any is_open vars ≡ false → All Closed vars
-all_closed [] h = All-nil Closed
-all_closed (v ∷ vars) h =
-    let parts = or_parts (is_open v) (list_any is_open vars) h in
-    All-cons Closed v vars (closed_test (is_integer v.kind) (is_some (own_bounds v).lower && is_some (own_bounds v).upper) parts.0) (all_closed vars parts.1)
-
-pub closed : (m : Model) → has_open m ≡ false → IsClosed m
-closed m h = all_closed m.vars h
 
 -- ---- the bounds within cuts
 
@@ -88,6 +68,10 @@ same_of_both f a b same p q = by_options a.lower a.upper b.lower b.upper p.lower
     by_options (Some l) (Some u) None v c d e g = absurd (true≢false (sym e))
     by_options (Some l) (Some u) (Some k) None c d e g = absurd (true≢false (sym g))
 
+-- has both bounds where it is integer
+abbrev Closed : Var → Type 0
+Closed v = is_integer v.kind ≡ true → IsTrue (is_some (own_bounds v).lower && is_some (own_bounds v).upper)
+
 -- each cut of a variable behind this place is of an integer one
 abbrev Behind : ℕ → List Var → Cut → Type 0
 Behind first vars cut = (k : ℕ) → cut.var ≡ first + k → IsTrue (is_integer_number vars (suc k))
@@ -121,7 +105,7 @@ all_same f first (v ∷ vars) cuts same shut on =
 -- how many columns or rows all variables have
 shapes_same : (f : Shape → ℕ) (m : Model) (cuts : List Cut) → IsSameOfBoth f → has_open m ≡ false → AreOnIntegers m cuts → sum_by f (shapes_of m cuts) ≡ sum_by f (shapes_of m [])
 shapes_same f m cuts same shut on =
-    all_same f 0 m.vars cuts same (all_closed m.vars shut) (λ i d within k is. subst (λ p. IsTrue (is_integer_number m.vars (suc p))) (is ∙ omega arith) (on i d within))
+    all_same f 0 m.vars cuts same ((closed_where_none m).0 shut) (λ i d within k is. subst (λ p. IsTrue (is_integer_number m.vars (suc p))) (is ∙ omega arith) (on i d within))
 
 pub same_columns : (m : Model) (cuts : List Cut) (s : Std) → has_open m ≡ false → AreOnIntegers m cuts → standard_form m cuts ≡ Ok s → length s.obj ≡ root_columns m
 same_columns m cuts s shut on is = form-columns m cuts s is ∙ shapes_same width m cuts (λ l u k v. refl) shut on

@@ -16,6 +16,7 @@ use Rattle.solve_defs.specs.declared.status.TheConstants.{ITERATION_LIMIT, NODE_
 use Rattle.solve_defs.proofs.FormSizes.{form-uniform}
 use Rattle.limit_defs.specs.Counts.{pivots_within}
 use Rattle.limit_defs.specs.Limits.{HasEnoughNodes, HasEnoughPivots, has_open, is_open, nodes_of, pivots_of}
+use Rattle.limit_defs.proofs.Open.{closed_where_none}
 use Rattle.search_laws.specs.Counts.{IsBrief, nodes_below, range_between, range_of, ranges_from, splits_within}
 use Rattle.search_laws.proofs.Brief.{closed_pivots_suffice}
 use Rattle.search_laws.proofs.Dividing.{closed_counts}
@@ -24,7 +25,7 @@ use Rattle.relaxation_laws.proofs.LowestForm.{form_reduced}
 use Rattle.relaxation_laws.proofs.Shown.{relaxation_law}
 use Rattle.pivot_laws.proofs.Stages.{few_pivots}
 use Rattle.node_laws.specs.Bounds.{KeepsBounds}
-use Rattle.node_laws.proofs.Sizes.{closed, same_columns, same_rows}
+use Rattle.node_laws.proofs.Sizes.{same_columns, same_rows}
 
 -- each relaxation takes fewer pivots than the root's bound
 brief : (m : Model) → IsLawful m → HasKeptNumbers m → has_open m ≡ false → IsBrief m (pivots_of m)
@@ -41,15 +42,15 @@ nodes_are m = one_less (ranges_from 0 m.vars []) (ranges_some 0 m.vars [])
 
 few_nodes : (m : Model) (p : Params) (k : ℕ) → IsLawful m → HasKeptNumbers m → has_open m ≡ false → (plain_cut m p k).outcome.nodes ≤ nodes_of m
 few_nodes m p k lawful kept shut =
-    subst (λ n. (plain_cut m p k).outcome.nodes ≤ n) (nodes_are m) (closed_counts m p k (relaxation_law m lawful kept) (closed m shut)).nodes
+    subst (λ n. (plain_cut m p k).outcome.nodes ≤ n) (nodes_are m) (closed_counts m p k (relaxation_law m lawful kept) ((closed_where_none m).0 shut)).nodes
 
 nodes_suffice : (m : Model) (p : Params) (k : ℕ) → IsLawful m → HasKeptNumbers m → HasEnoughNodes m p → (plain_cut m p k).outcome.status ≢ NODE_LIMIT
 nodes_suffice m p k lawful kept h =
-    (closed_counts m p k (relaxation_law m lawful kept) (closed m h.closed)).enough (subst (λ n. n ≤ p.nodes) (sym (nodes_are m)) h.enough)
+    (closed_counts m p k (relaxation_law m lawful kept) ((closed_where_none m).0 h.closed)).enough (subst (λ n. n ≤ p.nodes) (sym (nodes_are m)) h.enough)
 
 pivots_suffice : (m : Model) (p : Params) (k : ℕ) → IsLawful m → HasKeptNumbers m → HasEnoughPivots m p → (plain_cut m p k).outcome.status ≢ ITERATION_LIMIT
 pivots_suffice m p k lawful kept h =
-    closed_pivots_suffice m p (pivots_of m) k (relaxation_law m lawful kept) (closed m h.closed) (brief m lawful kept h.closed)
+    closed_pivots_suffice m p (pivots_of m) k (relaxation_law m lawful kept) ((closed_where_none m).0 h.closed) (brief m lawful kept h.closed)
     (subst (λ n. pivots_of m * n ≤ p.iterations) (sym (nodes_are m)) h.enough)
 
 -- ---- without integer variables
