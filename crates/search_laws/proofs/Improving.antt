@@ -18,11 +18,11 @@ use Rattle.dictionary.specs.Dictionary.{Dictionary}
 use Rattle.dictionary.specs.declared.standard.Std.{Std}
 use Rattle.solve_defs.specs.Certificates.{Subtree, cuts_of, under}
 use Rattle.solve_defs.specs.Ends.{point_of}
+use Rattle.solve_defs.specs.Kinds.{are_continuous}
 use Rattle.solve_defs.specs.Path.{Coming, Entering, a_pivot, an_end, coming, entry_count, next}
 use Rattle.solve_defs.specs.Plain.{Node, Placed, Progress, Run, Search, Turn, at_fractional, at_point, begun, begun_with, best_turn, both_back, bound_turn, bound_weights, cut_off, farkas_weights, first_fractional, going, improves, node_turn, outcome, over, pivot_turn, pivoted_to, plain_cut, pointless_turn, ray_turn, rooted, run, silent, split_turn, start, stopped, turn, turn_at, turn_on, unbounded_turn, with_finished}
 use Rattle.solve_defs.specs.Points.{IsUnbounded, relaxation}
 use Rattle.solve_defs.specs.StandardForm.{point_back, shapes_of, standard_form}
-use Rattle.solve_defs.specs.Values.{has_integers}
 use Rattle.solve_defs.specs.declared.cut.Cut.{Cut}
 use Rattle.solve_defs.specs.declared.solving.LpEnd.TheVariants.{Best, NoPoint, Unbounded}
 use Rattle.solve_defs.specs.declared.status.TheConstants.{INFEASIBLE, INF_OR_UNBD, INTERRUPTED, ITERATION_LIMIT, NODE_LIMIT, NUMERIC, OPTIMAL, UNBOUNDED, WORK_LIMIT}
@@ -173,9 +173,9 @@ unbounded_keeps : (m : Model) (s : Search) (node : Node) → RelaxationLaw m →
     → Keeps m s.incumbent (unbounded_turn m s node).progress
 unbounded_keeps m s node law rooted reached comes =
     ⊎_elim
-    (λ root. cond_both {A = Turn} (has_integers m) _ (ray_turn s (both_back m node)) (λ t. Keeps m s.incumbent t.progress)
-    (λ _. (subst (λ i. IsNoWorse m.direction i None) (sym root.1) tt, record { relaxed = λ _. ap suc root.2; unbounded = λ _. ap suc root.2 }))
-    (λ _. ray_keeps m s (both_back m node) root.1 root.2))
+    (λ root. cond_both {A = Turn} (are_continuous m.vars) (ray_turn s (both_back m node)) _ (λ t. Keeps m s.incumbent t.progress)
+    (λ _. ray_keeps m s (both_back m node) root.1 root.2)
+    (λ _. (subst (λ i. IsNoWorse m.direction i None) (sym root.1) tt, record { relaxed = λ _. ap suc root.2; unbounded = λ _. ap suc root.2 })))
     (λ bounded. absurd (bounded (unbounded_root m node.cuts (law.unbounded node.cuts node.dictionary reached comes))))
     rooted
 

@@ -16,10 +16,10 @@ use Rattle.model_data.specs.declared.solution.CertNode.{CertNode}
 use Rattle.model_data.specs.declared.solution.CertNode.TheVariants.{Split}
 use Rattle.dictionary.specs.Dictionary.{Dictionary, opening}
 use Rattle.dictionary.specs.declared.standard.Std.{Std}
+use Rattle.solve_defs.specs.Kinds.{are_continuous}
 use Rattle.solve_defs.specs.Path.{Coming, Entering, a_pivot, an_end, coming, entry_count, next}
 use Rattle.solve_defs.specs.Plain.{Node, Placed, Progress, Run, Search, Turn, at_fractional, at_point, begun, begun_with, best_turn, bound_turn, cut_off, finish, going, improves, next_node, node_turn, outcome, over, pivot_turn, pivoted_to, plain_cut, plain_run, pointless_turn, ray_turn, rooted, run, silent, split_turn, start, stopped, turn, turn_at, turn_limit, turn_on, unbounded_turn, with_finished}
 use Rattle.solve_defs.specs.StandardForm.{standard_form}
-use Rattle.solve_defs.specs.Values.{has_integers}
 use Rattle.solve_defs.specs.declared.cut.Cut.{Cut}
 use Rattle.solve_defs.specs.declared.solving.LpEnd.{LpEnd}
 use Rattle.solve_defs.specs.declared.solving.LpEnd.TheVariants.{Best, NoPoint, Unbounded}
@@ -131,7 +131,7 @@ ray_leads p s (Ok both) pivots work nodes = record { pivots = pivots; nodes = om
 
 unbounded_leads : (m : Model) (p : Params) (s : Search) (node : Node) → s.pivots ≤ p.iterations → s.work ≤ p.work → s.nodes < p.nodes → Leads p s.pivots (suc s.nodes) (unbounded_turn m s node).progress
 unbounded_leads m p s node pivots work nodes =
-    cond_both {A = Turn} (has_integers m) _ _ (λ t. Leads p s.pivots (suc s.nodes) t.progress) (λ _. record { pivots = pivots; nodes = omega (arith, nodes); work = work }) (λ _. ray_leads p s _ pivots work nodes)
+    cond_both {A = Turn} (are_continuous m.vars) _ _ (λ t. Leads p s.pivots (suc s.nodes) t.progress) (λ _. ray_leads p s _ pivots work nodes) (λ _. record { pivots = pivots; nodes = omega (arith, nodes); work = work })
 
 -- a node that ends
 pub end_leads : (m : Model) (p : Params) (s : Search) (node : Node) (e : LpEnd) → s.pivots ≤ p.iterations → s.work ≤ p.work → s.nodes < p.nodes → Leads p s.pivots (suc s.nodes) (node_turn m p s node (an_end e)).progress
