@@ -26,7 +26,7 @@ use Rattle.solve_defs.specs.declared.status.TheConstants.{INFEASIBLE, INF_OR_UNB
 use Rattle.search_laws.specs.Counts.{CountsNodes, IsDivided, nodes_below}
 use Rattle.solve_defs.specs.Relaxations.{IsReached}
 use Rattle.search_laws.specs.Searches.{with_own}
-use Rattle.search_laws.specs.Turns.{Meets}
+use Rattle.search_laws.specs.Turns.{KeepsOrEnds}
 use Rattle.search_laws.proofs.Runs.{run-going, run-none, run-over}
 use Rattle.search_laws.proofs.Steps.{read}
 use Rattle.solve_defs.specs.Bounds.{at_least_cut, at_most_cut}
@@ -42,7 +42,7 @@ pub record Counted (m : Model) (splits : List Cut → ℕ) (most : ℕ) (s : Sea
   pub node : IfSome s.node (λ node. IsReached m node.cuts node.dictionary)
 
 abbrev pub Leads : Model → Params → (List Cut → ℕ) → ℕ → Progress → Type 0
-Leads m p splits most = Meets (Counted m splits most) (λ o cert. CountsNodes p most o)
+Leads m p splits most = KeepsOrEnds (Counted m splits most) (λ o cert. CountsNodes p most o)
 
 counts : (p : Params) (most status : ℕ) (s : Search) (point : Option Point) (wide : Option WideAt) → s.nodes ≤ most → status ≢ NODE_LIMIT → CountsNodes p most (outcome status s point wide)
 counts p most status s point wide nodes other = record { nodes = nodes; enough = λ _. other }

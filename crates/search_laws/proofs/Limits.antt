@@ -25,7 +25,7 @@ use Rattle.solve_defs.specs.declared.solving.LpEnd.{LpEnd}
 use Rattle.solve_defs.specs.declared.solving.LpEnd.TheVariants.{Best, NoPoint, Unbounded}
 use Rattle.solve_defs.specs.declared.status.TheConstants.{ITERATION_LIMIT, NODE_LIMIT, WORK_LIMIT}
 use Rattle.solve_defs.specs.declared.solving.Events.{Events}
-use Rattle.search_laws.specs.Turns.{IsOver, KeepsLimits, Meets, then_on}
+use Rattle.search_laws.specs.Turns.{IsOver, KeepsLimits, KeepsOrEnds, then_on}
 use Rattle.search_laws.proofs.Runs.{run-going, run-more, run-none, run-over}
 use Rattle.solve_defs.specs.Bounds.{at_least_cut, at_most_cut}
 
@@ -54,7 +54,7 @@ kept p s status point wide pivots work nodes = record { pivots = pivots; nodes =
 
 -- where a turn leads
 abbrev pub Leads : Params → ℕ → ℕ → Progress → Type 0
-Leads p pivots nodes = Meets (Stage p pivots nodes) (Ends p)
+Leads p pivots nodes = KeepsOrEnds (Stage p pivots nodes) (Ends p)
 
 begins : (p : Params) (s : Search) (cuts : List Cut) (later : List (List Cut)) (form : Result Std Wide) → s.pivots ≤ p.iterations → s.work ≤ p.work → s.nodes < p.nodes
     → Leads p s.pivots s.nodes (begun_with s cuts later form)
@@ -146,7 +146,7 @@ pub record Counts (p : Params) (n : ℕ) (s : Search) : Type 0 where
   pub within : Within p s
 
 abbrev pub Totals : Params → ℕ → Progress → Type 0
-Totals p n = Meets (Counts p n) (Ends p)
+Totals p n = KeepsOrEnds (Counts p n) (Ends p)
 
 counted : (p : Params) (a b : ℕ) (at : Progress) → Leads p a b at → Totals p (a + b) at
 counted p a b (going s) stage = let pivots = stage.pivots_are in let nodes = stage.nodes_are in record { total = omega (arith, pivots, nodes); within = stage.within }
@@ -256,12 +256,12 @@ plain_cut_keeps m p (suc k) =
 
 -- ---- one turn, and how many
 
-totals_meet : (p : Params) (n : ℕ) (at : Progress) → Totals p n at → Meets (λ t. t.pivots + t.nodes ≡ n) (λ o cert. KeepsLimits p o) at
+totals_meet : (p : Params) (n : ℕ) (at : Progress) → Totals p n at → KeepsOrEnds (λ t. t.pivots + t.nodes ≡ n) (λ o cert. KeepsLimits p o) at
 totals_meet p n (going s) counts = counts.total
 totals_meet p n (over o cert) keeps = keeps
 
 pub turn_raises : (m : Model) (p : Params) (s : Search) (node : Node) → s.node ≡ Some node → s.pivots ≤ p.iterations → s.work ≤ p.work → s.nodes < p.nodes
-    → Meets (λ t. t.pivots + t.nodes ≡ suc (s.pivots + s.nodes)) (λ o cert. KeepsLimits p o) (turn m p s).progress
+    → KeepsOrEnds (λ t. t.pivots + t.nodes ≡ suc (s.pivots + s.nodes)) (λ o cert. KeepsLimits p o) (turn m p s).progress
 turn_raises m p s node is pivots work nodes =
     totals_meet p (suc (s.pivots + s.nodes)) (turn m p s).progress
     (turn_leads m p (s.pivots + s.nodes) s record { total = refl; within = record { node = node; is_node = is; pivots = pivots; work = work; nodes = nodes } })

@@ -33,7 +33,7 @@ use Rattle.solve_defs.specs.declared.status.TheConstants.{INF_OR_UNBD, INTERRUPT
 use Rattle.frac128.proofs.Chains.{same_ok, through}
 use Rattle.solve_defs.specs.Relaxations.{IsReached, RelaxationLaw}
 use Rattle.search_laws.specs.Searches.{IsKept, IsNoWorse, IsRight, IsTreeTo, Stands, with_own}
-use Rattle.search_laws.specs.Turns.{Meets}
+use Rattle.search_laws.specs.Turns.{KeepsOrEnds}
 use Rattle.search_laws.proofs.Grown.{with_bound, with_farkas, with_split}
 use Rattle.search_laws.proofs.KeptHere.{kept_here}
 use Rattle.search_laws.proofs.Looser.{unbounded_root}
@@ -48,7 +48,7 @@ use Rattle.solve_defs.specs.Bounds.{at_least_cut, at_most_cut}
 
 -- what a turn has to keep
 abbrev pub Leads : Model → Progress → Type 0
-Leads m = Meets (Stands m) (IsRight m)
+Leads m = KeepsOrEnds (Stands m) (IsRight m)
 
 -- ---- ends
 
