@@ -16,7 +16,7 @@ ghost use Rattle.std_form.specs.Cuts.{IsCutOf, IsSmall};
 ghost use Rattle.branch_tree.specs.Findings.{HasCutsOf, answer_of, placed_of, sol_of, turn_by, with_point};
 
 use crate::finding::{Finding, Halves};
-use crate::readings::{Fractional, first_fractional, floor, has_integers, improves, turned};
+use crate::readings::{Fractional, are_continuous, first_fractional, floor, improves, turned};
 use base_names::{NoMemory, OrMemory, Seq};
 use dictionary::{Dict, Tableau};
 use frac128::{Frac, Wide};
@@ -53,7 +53,7 @@ pub(crate) fn pointless(
     }
 }
 
-/// The relaxation has no bound, which is the root's: a ray, where no variable is integer.
+/// The relaxation has no bound, which is the root's: a ray, where each variable is continuous.
 #[tactic(auto, using(crate::proofs::Relaxing::ray_point_long, crate::proofs::Relaxing::ray_long))]
 pub(crate) fn unbounded(
     alloc: Global,
@@ -68,7 +68,7 @@ pub(crate) fn unbounded(
         ≡ unbounded_turn m.now.model s record { cuts = cuts.now.items; dictionary = t.now }) }
     ensures cuts { IfOk result (HasCutsOf (length m.now.model.vars)) }
 {
-    if has_integers(&m.model) {
+    if !are_continuous(&m.model) {
         return Ok(Finding::RisingRelaxed);
     }
     let columns = ray_of(alloc, t)?;

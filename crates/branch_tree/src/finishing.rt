@@ -15,7 +15,7 @@ ghost use Rattle.branch_tree.specs.declared.finding.Finding.TheVariants.{Halved}
 use crate::counts::{Counts, Stop};
 use crate::done::Done;
 use crate::finding::{Finding, Halves};
-use crate::readings::has_integers;
+use crate::readings::are_continuous;
 use crate::search::Search;
 use crate::step::Step;
 use base_names::NoMemory;
@@ -198,7 +198,7 @@ impl Counts {
         ensures { (s : SearchDef) → IsCounted self.now s
             → result ≡ record no_events { sol = told_of m.now s point.now; node = node_event m.now s } }
     {
-        if !has_integers(m) {
+        if are_continuous(m) {
             return Events {
                 simplex: None,
                 sol: None,

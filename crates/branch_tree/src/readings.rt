@@ -2,8 +2,9 @@
 ghost use Rattle.std.specs.Prelude.{◌≡◌, ◌<◌, ◌^◌, IfSome, length, option_map, unsigned_abs};
 ghost use Rattle.model_data.specs.Lawful.{IsLawful};
 ghost use Rattle.model_data.specs.Size.{is_integer};
+ghost use Rattle.solve_defs.specs.Kinds.{are_continuous, is_continuous};
 ghost use Rattle.solve_defs.specs.Plain.{first_fractional, improves};
-ghost use Rattle.solve_defs.specs.Values.{floor_of, has_integers, is_better, is_whole, turned};
+ghost use Rattle.solve_defs.specs.Values.{floor_of, is_better, is_whole, turned};
 ghost use Rattle.std_form.specs.Cuts.{IsSmall};
 ghost use Rattle.branch_tree.specs.Findings.{placed_of};
 
@@ -17,11 +18,20 @@ pub(crate) struct Fractional {
     pub(crate) value: Frac,
 }
 
-/// Whether some variable takes whole numbers alone.
-pub(crate) fn has_integers(m: &Model) -> bool
-    ensures { result ≡ has_integers m.now }
+/// Whether each variable is continuous.
+pub(crate) fn are_continuous(m: &Model) -> bool
+    ensures { result ≡ are_continuous m.now.vars }
 {
-    m.vars.as_slice().iter().any(|var| is_integer(var.kind))
+    m.vars.as_slice().iter().all(|var| is_continuous(var.kind))
+}
+
+fn is_continuous(kind: VarKind) -> bool
+    ensures { result ≡ is_continuous kind }
+{
+    match kind {
+        VarKind::Continuous => true,
+        VarKind::Integer | VarKind::Binary => false,
+    }
 }
 
 fn is_integer(kind: VarKind) -> bool

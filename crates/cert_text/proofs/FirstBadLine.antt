@@ -24,16 +24,16 @@ use Rattle.cert_text.proofs.Finishing.{can_end}
 use Rattle.cert_text.proofs.ReadLines.{IsOutcome, IsRead, IsStuck, at_end, at_line, outcome_of_reading, parts_with, read_on, spelled_is_read, split_last, split_line, split_text}
 use Rattle.cert_text.proofs.Runs.{ran, run}
 
-abbrev is_end : ℕ → Bool
+abbrev pub is_end : ℕ → Bool
 is_end byte = byte == 10
 
 -- ---- parts joined again
 
 -- parts with a line feed between any two of them
-joined : List (List ℕ) → List ℕ
+pub joined : List (List ℕ) → List ℕ
 joined parts = join_with_byte 10 parts
 
-whole_again : (text : List ℕ) → joined (slice_split is_end text) ≡ text
+pub whole_again : (text : List ℕ) → joined (slice_split is_end text) ≡ text
 unfolding joined
 whole_again text = join_with_byte-slice_split 10 text
 
@@ -223,7 +223,7 @@ err_bad text n t left h stuck =
 
 -- ---- the answer to a reading
 
-pub IsRight : List ℕ → Result Proof ℕ → Type 0
+unfoldable pub IsRight : List ℕ → Result Proof ℕ → Type 0
 IsRight text (Ok p) = Spells text p.outcome p.cert
 IsRight text (Err n) = IsFirstBadLine text n
 

@@ -5,6 +5,7 @@ pub mod Finishing
 pub mod FirstBadLine
 pub mod Missing
 pub mod NumberTexts
+pub mod OneBadLine
 pub mod ReadLines
 pub mod Runs
 pub mod Stages

@@ -18,7 +18,7 @@ use Rattle.frac128.specs.Text.{canonical_text, denominator_text}
 use Rattle.frac_text.specs.Reading.{number_of, reading}
 use Rattle.frac_text.specs.declared.fault.NumFault.{NumFault}
 use Rattle.frac_text.proofs.RoundTrip.{reading-canonical_text}
-use Rattle.lp_defs.proofs.SoundNumbers.{reading_kept}
+use Rattle.frac_text.proofs.Kept.{reading_kept}
 use Rattle.solve_defs.specs.Values.{whole}
 use Rattle.cert_text.specs.Reading.{◌>>=◌, count_of, fraction_of, least, least_text, whole_in, whole_of, written_as}
 use Rattle.cert_text.proofs.Basics.{bound_then, chosen, equal_bytes, same_bytes}

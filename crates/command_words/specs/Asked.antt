@@ -17,6 +17,7 @@ use Rattle.command_words.specs.declared.asked.Words.{Words}
 use Rattle.command_words.specs.declared.asked.Words.TheVariants.{Session, Work, Replay, Solve, Verify, Limits, Load, Serve}
 use Rattle.command_words.specs.declared.asked.ServeWords.{ServeWords}
 use Rattle.command_words.specs.declared.asked.WordsFault.{WordsFault}
+use Rattle.command_words.specs.declared.limits.TheConstants.{MAX_CLUSTER_NODES, MAX_DIGITS, MAX_JOB_LIMIT, MAX_PORT, MAX_WORKERS, NO_HARD_LIMIT, USUAL_CLUSTER_NODES, USUAL_JOB_LIMIT, USUAL_PORT, USUAL_WORKERS}
 use Rattle.command_words.specs.declared.values.Sizes.{Sizes}
 
 pub record Server : Type 0 where
@@ -69,12 +70,12 @@ file_or usual (Some word) = file word
 abbrev pub usual_journal : Word
 usual_journal = codes "cluster.journal"
 
--- 1 to 20 digits, of a number from `low` to `high`
+-- at least one digit and not too many, of a number from `low` to `high`
 abbrev pub within : ℕ → ℕ → ℕ → Option ℕ
 within low high n = if nat_le low n && nat_le n high then Some n else None
 
 abbrev pub count : ℕ → ℕ → Word → Option ℕ
-count low high word = if nat_le (length word) 20 then option_and_then (within low high) (below (2 ^ 64) (number_of word)) else None
+count low high word = if nat_le (length word) MAX_DIGITS then option_and_then (within low high) (below (2 ^ 64) (number_of word)) else None
 
 abbrev pub count_or : ℕ → ℕ → ℕ → Option Word → Option ℕ
 count_or usual low high None = Some usual
@@ -106,12 +107,12 @@ solve_asked iterations nodes most =
 abbrev pub load_asked : Option Word → Option Asked
 load_asked seed = option_map load (option_and_then (count 0 (2 ^ 64 - 1)) seed)
 
--- a hard limit is 0, or it isn't below the limit
+-- there is no hard limit, or it isn't below the limit
 abbrev pub within_hard : ℕ → ℕ → Option ℕ
-within_hard limit hard = if (hard == 0) || nat_le limit hard then Some hard else None
+within_hard limit hard = if (hard == NO_HARD_LIMIT) || nat_le limit hard then Some hard else None
 
 abbrev pub hard_asked : ℕ → Option Word → Option ℕ
-hard_asked limit hard = option_and_then (within_hard limit) (count_or 0 0 1000 hard)
+hard_asked limit hard = option_and_then (within_hard limit) (count_or NO_HARD_LIMIT 0 MAX_JOB_LIMIT hard)
 
 abbrev pub sizes_with : ℕ → ℕ → ℕ → ℕ → ℕ → Sizes
 sizes_with port nodes limit hard workers = record { port = port; nodes = nodes; limit = limit; hard = hard; workers = workers }
@@ -119,8 +120,8 @@ sizes_with port nodes limit hard workers = record { port = port; nodes = nodes; 
 -- the numbers of a server
 abbrev pub sizes_asked : Option Word → Option Word → Option Word → Option Word → Option Word → Option Sizes
 sizes_asked port nodes limit hard workers =
-    option_and_then (λ p. option_and_then (λ n. option_and_then (λ l. option_and_then (λ h. option_map (sizes_with p n l h) (count_or 2 1 16 workers))
-    (hard_asked l hard)) (count_or 2 1 1000 limit)) (count_or 1 1 16 nodes)) (count_or 61000 1 65535 port)
+    option_and_then (λ p. option_and_then (λ n. option_and_then (λ l. option_and_then (λ h. option_map (sizes_with p n l h) (count_or USUAL_WORKERS 1 MAX_WORKERS workers))
+    (hard_asked l hard)) (count_or USUAL_JOB_LIMIT 1 MAX_JOB_LIMIT limit)) (count_or USUAL_CLUSTER_NODES 1 MAX_CLUSTER_NODES nodes)) (count_or USUAL_PORT 1 MAX_PORT port)
 
 abbrev pub serve_with : Word → Word → Sizes → Asked
 serve_with keys journal s = serve (record { keys = keys; port = s.port; journal = journal; nodes = s.nodes; limit = s.limit; hard = s.hard; workers = s.workers })

@@ -7,6 +7,7 @@
 
 mod asked;
 mod command;
+mod limits;
 mod reading;
 mod values;
 

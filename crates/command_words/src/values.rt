@@ -3,8 +3,13 @@
 ghost use Rattle.std.specs.Prelude.{◌≡◌, ◌^◌, ◌-◌, ◌≤◌, IfOk, IfSome, None, codes, option_map, option_and_then, string_bytes};
 ghost use Rattle.std.specs.Option.{option_copied};
 ghost use Rattle.command_words.specs.Asked.{Answers, count, count_or, file, file_or, load_asked, owner, role_of, hard_asked, is_file, serve_asked, session_asked, sizes_asked, solve, solve_asked, usual_journal, work_asked};
+ghost use Rattle.command_words.specs.declared.limits.TheConstants.{MAX_JOB_LIMIT};
 
 use crate::asked::{ServeWords, Words, WordsFault};
+use crate::limits::{
+    MAX_CLUSTER_NODES, MAX_DIGITS, MAX_JOB_LIMIT, MAX_PORT, MAX_WORKERS, NO_HARD_LIMIT,
+    USUAL_CLUSTER_NODES, USUAL_JOB_LIMIT, USUAL_PORT, USUAL_WORKERS,
+};
 use base_names::{NoMemory, OrMemory, Owner, Role, read_digits};
 use model_data::{MAX_ITERATIONS, MAX_NODES, MAX_WORK, Params};
 use std::alloc::Global;
@@ -35,12 +40,12 @@ fn journal(alloc: Global, word: Option<&str>) -> Result<Option<String>, NoMemory
     }
 }
 
-/// A number of 1 to 20 digits between two limits.
+/// A number of at least one digit and not too many, between two limits.
 fn count(word: &str, low: u64, high: u64) -> Option<u64>
     ensures value { result ≡ count low high word.now }
     ensures most { IfSome result (λ n. n ≤ high) }
 {
-    if word.len() > 20 {
+    if word.len() > MAX_DIGITS {
         return None;
     }
     let n = read_digits(word.as_bytes())?;
@@ -159,11 +164,11 @@ pub fn sizes_given(
 ) -> Option<Sizes>
     ensures { result ≡ sizes_asked (option_copied port.entry) (option_copied nodes.entry) (option_copied limit.entry) (option_copied hard.entry) (option_copied workers.entry) }
 {
-    let port = count_or(port, 61_000, 1, 65_535)?;
-    let nodes = count_or(nodes, 1, 1, 16)?;
-    let limit = count_or(limit, 2, 1, 1_000)?;
+    let port = count_or(port, USUAL_PORT, 1, MAX_PORT)?;
+    let nodes = count_or(nodes, USUAL_CLUSTER_NODES, 1, MAX_CLUSTER_NODES)?;
+    let limit = count_or(limit, USUAL_JOB_LIMIT, 1, MAX_JOB_LIMIT)?;
     let hard = hard_limit(limit, hard)?;
-    let workers = count_or(workers, 2, 1, 16)?;
+    let workers = count_or(workers, USUAL_WORKERS, 1, MAX_WORKERS)?;
     Some(Sizes {
         port: port as u16,
         nodes: nodes as u32,
@@ -173,13 +178,13 @@ pub fn sizes_given(
     })
 }
 
-/// A hard limit of 0, or one that isn't below the limit.
+/// No hard limit, or one that isn't below the limit.
 fn hard_limit(limit: u64, hard: Option<&str>) -> Option<u64>
     ensures value { result ≡ hard_asked limit (option_copied hard.entry) }
-    ensures most { IfSome result (λ n. n ≤ 1000) }
+    ensures most { IfSome result (λ n. n ≤ MAX_JOB_LIMIT) }
 {
-    let hard = count_or(hard, 0, 0, 1_000)?;
-    if hard == 0 || limit <= hard {
+    let hard = count_or(hard, NO_HARD_LIMIT, 0, MAX_JOB_LIMIT)?;
+    if hard == NO_HARD_LIMIT || limit <= hard {
         Some(hard)
     } else {
         None

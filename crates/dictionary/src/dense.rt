@@ -1,10 +1,15 @@
 //! The dense representation.
-ghost use Rattle.std.specs.Prelude.{◌≡◌, ◌<◌, ◌==◌, Contains, IfOk, position};
+ghost use Rattle.std.specs.Prelude.{◌≡◌, ◌+◌, ◌*◌, ◌^◌, ◌<◌, ◌==◌, Contains, IfOk, None, Some, length, position};
 ghost use Rattle.std.specs.List.{position_or_len};
+ghost use Rattle.frac128.specs.Fraction.{negation, one_value};
+ghost use Rattle.dictionary.specs.Cells.{AreCellsOf};
 ghost use Rattle.dictionary.specs.Dictionary.{IsUniform, opening, with_artificial, without_artificial};
+ghost use Rattle.dictionary.specs.declared.standard.Std.{Std as StdDef};
 
 use crate::elimination::{eliminate_auxiliary, eliminate_objective, pivot_rows};
-use crate::openings::{auxiliary_row, needs_phase_one, numbers_from, objective_row, opening_cells};
+use crate::openings::{
+    auxiliary_row, cells_from, needs_phase_one, numbers_from, objective_row, opening_cells,
+};
 use crate::removal::remove_column;
 use crate::standard::Std;
 use crate::tableaus::Tableau;
@@ -43,23 +48,58 @@ impl Dict {
         requires { IsUniform s.now }
         ensures { IfOk result (λ dict. dict ≡ opening s.now) }
     {
+        let rows = s.rows.as_slice();
+        let obj = s.obj.as_slice();
         if needs_phase_one(s) {
-            Dict::with_artificial(alloc, s)
+            let cells = opening_cells(alloc, rows, &Some(Frac::one().neg()), obj.len() + 2)?;
+            Dict::with_artificial(alloc, cells, rows.len(), obj, s.constant)
         } else {
-            Dict::without_artificial(alloc, s)
+            let cells = opening_cells(alloc, rows, &None, obj.len() + 1)?;
+            Dict::without_artificial(alloc, cells, rows.len(), obj, s.constant)
         }
     }
 
-    #[tactic(auto, unfolding(crate::specs::Dictionary::without_artificial))]
-    fn without_artificial(alloc: Global, s: &Std) -> Result<Dict, NoMemory>
-        requires { IsUniform s.now }
-        ensures { IfOk result (λ dict. dict ≡ without_artificial s.now) }
+    /// The same of a form that nobody wants behind it: each of its rows is freed once its entries stand in the dictionary.
+    #[tactic(auto, unfolding(crate::specs::Dictionary::opening))]
+    pub fn from_std(alloc: Global, s: Std) -> Result<Dict, NoMemory>
+        requires { IsUniform s }
+        ensures { IfOk result (λ dict. dict ≡ opening s) }
     {
+        let phase_one = needs_phase_one(&s);
+        let count = s.rows.len();
         let columns = s.obj.len();
-        let cells = opening_cells(alloc, s.rows.as_slice(), &None, columns + 1)?;
-        let objective = objective_row(alloc, s, &None)?;
+        if phase_one {
+            let cells = cells_from(
+                alloc,
+                s.rows.into_vec(),
+                &Some(Frac::one().neg()),
+                columns + 2,
+            )?;
+            Dict::with_artificial(alloc, cells, count, s.obj.as_slice(), s.constant)
+        } else {
+            let cells = cells_from(alloc, s.rows.into_vec(), &None, columns + 1)?;
+            Dict::without_artificial(alloc, cells, count, s.obj.as_slice(), s.constant)
+        }
+    }
+
+    /// In phase two, with these cells of so many rows.
+    #[tactic(auto, unfolding(crate::specs::Dictionary::without_artificial))]
+    fn without_artificial(
+        alloc: Global,
+        cells: Vec<Frac>,
+        rows: usize,
+        obj: &[Frac],
+        constant: Frac,
+    ) -> Result<Dict, NoMemory>
+        requires cells { length cells.items ≡ rows * (length obj.now + 1) }
+        requires row_limit { rows < 2 ^ 31 }
+        requires column_limit { length obj.now < 2 ^ 31 }
+        ensures { IfOk result (λ dict. (s : StdDef) → AreCellsOf None s rows obj.now constant cells.items → dict ≡ without_artificial s) }
+    {
+        let columns = obj.len();
+        let objective = objective_row(alloc, constant, obj, &None)?;
         let nonbasic = numbers_from(alloc, 1, columns as u32)?;
-        let basic = numbers_from(alloc, columns as u32 + 1, s.rows.len() as u32)?;
+        let basic = numbers_from(alloc, columns as u32 + 1, rows as u32)?;
         Ok(Dict {
             basic,
             nonbasic,
@@ -69,23 +109,27 @@ impl Dict {
         })
     }
 
+    /// In phase one, with these cells of so many rows.
     #[tactic(auto, unfolding(crate::specs::Dictionary::with_artificial, crate::specs::Dictionary::without_artificial))]
-    fn with_artificial(alloc: Global, s: &Std) -> Result<Dict, NoMemory>
-        requires { IsUniform s.now }
-        ensures { IfOk result (λ dict. dict ≡ with_artificial (without_artificial s.now)) }
+    fn with_artificial(
+        alloc: Global,
+        cells: Vec<Frac>,
+        rows: usize,
+        obj: &[Frac],
+        constant: Frac,
+    ) -> Result<Dict, NoMemory>
+        requires cells { length cells.items ≡ rows * (length obj.now + 2) }
+        requires row_limit { rows < 2 ^ 31 }
+        requires column_limit { length obj.now < 2 ^ 31 }
+        ensures { IfOk result (λ dict. (s : StdDef) → AreCellsOf (Some (negation one_value)) s rows obj.now constant cells.items
+            → dict ≡ with_artificial (without_artificial s)) }
     {
-        let columns = s.obj.len();
-        let cells = opening_cells(
-            alloc,
-            s.rows.as_slice(),
-            &Some(Frac::one().neg()),
-            columns + 2,
-        )?;
-        let objective = objective_row(alloc, s, &Some(Frac::zero()))?;
+        let columns = obj.len();
+        let objective = objective_row(alloc, constant, obj, &Some(Frac::zero()))?;
         let auxiliary = auxiliary_row(alloc, columns)?;
         let mut nonbasic = numbers_from(alloc, 1, columns as u32)?;
         nonbasic.push(0)?;
-        let basic = numbers_from(alloc, columns as u32 + 1, s.rows.len() as u32)?;
+        let basic = numbers_from(alloc, columns as u32 + 1, rows as u32)?;
         Ok(Dict {
             basic,
             nonbasic,

@@ -47,6 +47,25 @@ pub fn opening_cells(
     Ok(cells)
 }
 
+/// The same of rows that nobody wants behind it: each one is freed once its entries stand among the cells.
+pub fn cells_from(
+    alloc: Global,
+    rows: Vec<StdRow>,
+    artificial: &Option<Frac>,
+    width: usize,
+) -> Result<Vec<Frac>, NoMemory>
+    requires widths { All (λ row. length (opening_row artificial.now row) ≡ width) rows.items }
+    requires limit { length rows.items * width < 2 ^ 63 }
+    ensures rows { IfOk result (λ cells. rows_of width (length rows.items) cells.items ≡ map (opening_row artificial.now) rows.items) }
+    ensures count { IfOk result (λ cells. length cells.items ≡ length rows.items * width) }
+{
+    let mut cells = Vec::with_capacity(alloc, rows.len() * width)?;
+    for row in rows {
+        push_row(&mut cells, row.rhs, row.coefs.as_slice(), artificial)?;
+    }
+    Ok(cells)
+}
+
 /// A constant and an entry for each column, and one for the artificial variable where there is one.
 pub fn push_row(
     cells: &mut Vec<Frac>,
@@ -67,14 +86,15 @@ pub fn push_row(
 /// The objective, with an entry for the artificial variable where there is one.
 pub fn objective_row(
     alloc: Global,
-    s: &Std,
+    constant: Frac,
+    obj: &[Frac],
     artificial: &Option<Frac>,
 ) -> Result<Vec<Frac>, NoMemory>
-    requires { length s.now.obj < 2 ^ 31 }
-    ensures { IfOk result (λ row. row.items ≡ s.now.constant ∷ (s.now.obj ++ option_to_list artificial.now)) }
+    requires { length obj.now < 2 ^ 31 }
+    ensures { IfOk result (λ row. row.items ≡ constant ∷ (obj.now ++ option_to_list artificial.now)) }
 {
-    let mut row = Vec::with_capacity(alloc, s.obj.len() + 2)?;
-    push_row(&mut row, s.constant, s.obj.as_slice(), artificial)?;
+    let mut row = Vec::with_capacity(alloc, obj.len() + 2)?;
+    push_row(&mut row, constant, obj, artificial)?;
     Ok(row)
 }
 

@@ -5,11 +5,12 @@ use Rattle.frac128.proofs.Kept.{IsKept-negation, IsKept-one, IsKept-zero}
 use Rattle.model_data.specs.Kept.{HasKeptNumbers}
 use Rattle.model_data.specs.declared.model.Model.{Model}
 use Rattle.dictionary.specs.declared.standard.Std.{Std}
+use Rattle.solve_defs.specs.KeptCuts.{IsKeptCut}
 use Rattle.solve_defs.specs.StandardForm.{standard_form}
 use Rattle.solve_defs.specs.declared.cut.Cut.{Cut}
 use Rattle.relaxation_laws.proofs.FormNumbers.{CutHas, IsClosed, form_has}
 use Rattle.relaxation_laws.proofs.LowestForm.{kept_has}
-use Rattle.fit_laws.specs.KeptEntries.{HasKeptForm, IsKeptCut}
+use Rattle.fit_laws.specs.KeptEntries.{HasKeptForm}
 use Rattle.fit_laws.proofs.KeptPath.{kept_difference, kept_less, kept_plus}
 
 kept_closed : IsClosed IsKept

@@ -7,6 +7,7 @@ use Rattle.model_data.specs.declared.solution.Weights.{Weights}
 use Rattle.dictionary.specs.Dictionary.{Dictionary}
 use Rattle.dictionary.specs.declared.standard.Std.{Std}
 use Rattle.solve_defs.specs.Ends.{dual_of, farkas_of}
+use Rattle.solve_defs.specs.KeptCuts.{IsKeptCut}
 use Rattle.solve_defs.specs.Path.{an_end, coming}
 use Rattle.solve_defs.specs.Relaxations.{IsReached}
 use Rattle.solve_defs.specs.StandardForm.{shapes_of, standard_form, weights_back}
@@ -15,7 +16,7 @@ use Rattle.solve_defs.specs.declared.solving.LpEnd.TheVariants.{Best, NoPoint}
 use Rattle.relaxation_laws.specs.Reached.{Reached}
 use Rattle.relaxation_laws.proofs.Ending.{EndsAt, at_best, at_no_point, ends_at}
 use Rattle.relaxation_laws.proofs.Shown.{known}
-use Rattle.fit_laws.specs.KeptEntries.{HasKeptEntries, IsKeptCut}
+use Rattle.fit_laws.specs.KeptEntries.{HasKeptEntries}
 use Rattle.fit_laws.proofs.Equalities.{best_weights_come, farkas_weights_come}
 use Rattle.fit_laws.proofs.KeptForms.{form_fits}
 use Rattle.fit_laws.proofs.KeptPath.{dual_fits, farkas_fits, path_fits}

@@ -5,10 +5,11 @@ ghost use Rattle.model_data.specs.declared.model.Model.{Model};
 ghost use Rattle.dictionary.specs.Dictionary.{Dictionary, IsUniform, opening};
 ghost use Rattle.dictionary.specs.Solutions.{HasReducedNumbers};
 ghost use Rattle.dictionary.specs.declared.standard.Std.{Std};
+ghost use Rattle.solve_defs.specs.KeptCuts.{IsKeptCut};
 ghost use Rattle.solve_defs.specs.Path.{Path};
 ghost use Rattle.solve_defs.specs.StandardForm.{standard_form};
 ghost use Rattle.solve_defs.specs.declared.cut.Cut.{Cut};
-ghost use Rattle.fit_laws.specs.KeptEntries.{HasKeptEntries, HasKeptForm, IsKeptCut};
+ghost use Rattle.fit_laws.specs.KeptEntries.{HasKeptEntries, HasKeptForm};
 
 /// The numbers of a model's standard form fit, and so do the entries of each dictionary that its pivots reach: each is the
 /// result of an operation that fits.

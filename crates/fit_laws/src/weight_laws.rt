@@ -10,6 +10,7 @@ ghost use Rattle.dictionary.specs.Dictionary.{Dictionary};
 ghost use Rattle.dictionary.specs.declared.standard.Std.{Std};
 ghost use Rattle.dictionary.specs.declared.standard.StdRow.{StdRow};
 ghost use Rattle.solve_defs.specs.Ends.{dual_of, duals, farkas_of};
+ghost use Rattle.solve_defs.specs.KeptCuts.{IsKeptCut};
 ghost use Rattle.solve_defs.specs.Path.{an_end, coming};
 ghost use Rattle.solve_defs.specs.Relaxations.{IsReached};
 ghost use Rattle.solve_defs.specs.StandardForm.{negated, shapes_of, standard_form, weights_back};
@@ -17,7 +18,6 @@ ghost use Rattle.solve_defs.specs.Values.{value_at};
 ghost use Rattle.solve_defs.specs.declared.cut.Cut.{Cut};
 ghost use Rattle.solve_defs.specs.declared.solving.LpEnd.TheVariants.{Best, NoPoint};
 ghost use Rattle.relaxation_laws.specs.Reached.{IsInPhaseOne, IsInPhaseTwo, Relaxes};
-ghost use Rattle.fit_laws.specs.KeptEntries.{IsKeptCut};
 
 /// The two rows of an equality never both have a weight, neither by z in phase two nor by w in phase one.
 pub fn an_equality_weighs_once()

@@ -1,3 +1,4 @@
+pub mod Kept
 pub mod Outcomes
 pub mod RoundTrip
 pub mod Runs

@@ -15,7 +15,6 @@ mod ReadSections
 mod Rest
 mod Sight
 pub mod Sound
-pub mod SoundNumbers
 mod SoundRows
 pub mod SoundText
 pub mod SoundTokens

@@ -12,6 +12,7 @@ use Rattle.frac_text.specs.declared.fault.NumFault.{NumFault}
 use Rattle.frac_text.specs.declared.fault.NumFault.TheVariants.{NotNumber, TooWide as too_wide_number}
 use Rattle.model_data.specs.Names.{IsName, is_one_of}
 use Rattle.model_data.specs.declared.limits.TheConstants.{MAX_NAME_LEN}
+use Rattle.frac_text.proofs.Kept.{reading_kept}
 use Rattle.lp_defs.specs.declared.token.Place.{Place}
 use Rattle.lp_defs.specs.declared.token.TokenKind.{TokenKind}
 use Rattle.lp_defs.specs.declared.token.TokenKind.TheVariants.{Colon, Comparison, Infinite, Label, Name, Number, Section, Sign, TooWide}
@@ -23,7 +24,6 @@ use Rattle.lp_defs.specs.Text.{seen}
 use Rattle.lp_defs.specs.Tokens.{Part, Run, backslash, behind_byte, comment, gap, is_plain, is_plain_byte, is_run, is_run_byte, is_white, line_feed, part_after, run, runs_from, first_place}
 use Rattle.lp_defs.proofs.Labels.{label-lawful}
 use Rattle.lp_defs.proofs.Names.{Try, both_of, first_of, name-lawful, section_tries, symbols as symbol_tries}
-use Rattle.lp_defs.proofs.SoundNumbers.{reading_kept}
 use Rattle.lp_defs.proofs.Words.{sections}
 
 abbrev pub IsSoundQuantity : Quantity → Type 0

@@ -1,8 +1,8 @@
 -- A solve has few nodes and few pivots, and limits that allow as many are never met.
-use Rattle.std.proofs.Common.{◌≡◌, ◌≢◌, refl, sym, ap, subst, subst₂, ℕ, suc, ◌-◌, ◌*◌, ◌<◌, ◌≤◌, false, not, is_some, if◌then◌else◌, List, [], ◌∷◌, ◌&&◌, ap₂, arith}
+use Rattle.std.proofs.Common.{◌≡◌, ◌≢◌, refl, sym, ap, subst, subst₂, ℕ, suc, ◌-◌, ◌*◌, ◌<◌, ◌≤◌, true, false, not, is_some, if◌then◌else◌, List, [], ◌∷◌, ◌&&◌, ap₂, arith}
 use Rattle.std.specs.List.{list_any}
 use Rattle.std.proofs.Math.Nat.{mul-one}
-use Rattle.std.proofs.lemmas.Bool.{or_from, or_parts}
+use Rattle.std.proofs.lemmas.Bool.{and_parts, or_from, or_parts}
 use Rattle.model_data.specs.Kept.{HasKeptNumbers}
 use Rattle.model_data.specs.Lawful.{IsLawful}
 use Rattle.model_data.specs.Size.{is_integer}
@@ -10,9 +10,10 @@ use Rattle.model_data.specs.declared.model.Model.{Model}
 use Rattle.model_data.specs.declared.model.Var.{Var}
 use Rattle.model_data.specs.declared.params.Params.{Params}
 use Rattle.solve_defs.specs.Bounds.{Bounds, own_bounds}
+use Rattle.solve_defs.specs.Kinds.{are_continuous, is_continuous}
 use Rattle.solve_defs.specs.Plain.{plain_cut}
-use Rattle.solve_defs.specs.Values.{has_integers}
 use Rattle.solve_defs.specs.declared.status.TheConstants.{ITERATION_LIMIT, NODE_LIMIT}
+use Rattle.solve_defs.proofs.Domains.{continuous_kind}
 use Rattle.solve_defs.proofs.FormSizes.{form-uniform}
 use Rattle.limit_defs.specs.Counts.{pivots_within}
 use Rattle.limit_defs.specs.Limits.{HasEnoughNodes, HasEnoughPivots, has_open, is_open, nodes_of, pivots_of}
@@ -73,9 +74,16 @@ one_leaf place (v ∷ vars) h =
     let parts = or_parts (is_integer v.kind) (list_any (λ w. is_integer w.kind) vars) h in
     ap₂ (λ a b. a * b) (one_value v (own_bounds v) parts.0) (one_leaf (suc place) vars parts.1)
 
+no_integer : (vars : List Var) → are_continuous vars ≡ true → list_any (λ v. is_integer v.kind) vars ≡ false
+no_integer [] h = refl
+no_integer (v ∷ vars) h =
+    let parts = and_parts (is_continuous v.kind) (are_continuous vars) h in
+    or_from (is_integer v.kind) (list_any (λ w. is_integer w.kind) vars) (continuous_kind v.kind parts.0) (no_integer vars parts.1)
+
 -- the bound of one relaxation alone
-root_suffices : (m : Model) (p : Params) (k : ℕ) → IsLawful m → HasKeptNumbers m → has_integers m ≡ false → pivots_of m ≤ p.iterations → (plain_cut m p k).outcome.status ≢ ITERATION_LIMIT
-root_suffices m p k lawful kept none enough =
+root_suffices : (m : Model) (p : Params) (k : ℕ) → IsLawful m → HasKeptNumbers m → are_continuous m.vars ≡ true → pivots_of m ≤ p.iterations → (plain_cut m p k).outcome.status ≢ ITERATION_LIMIT
+root_suffices m p k lawful kept continuous enough =
+    let none = no_integer m.vars continuous in
     pivots_suffice m p k lawful kept record {
       closed = none_open m.vars none;
       enough = subst (λ n. pivots_of m * n ≤ p.iterations) (sym (ap (λ n. 2 * n - 1) (one_leaf 0 m.vars none))) (subst (λ n. n ≤ p.iterations) (sym (mul-one (pivots_of m))) enough);

@@ -14,9 +14,9 @@ use Rattle.model_data.specs.declared.solution.Point.{Point}
 use Rattle.model_data.specs.declared.solution.SolEvent.{SolEvent}
 use Rattle.model_data.specs.declared.solution.WideAt.{WideAt}
 use Rattle.model_data.specs.declared.solution.Weights.{Weights}
+use Rattle.solve_defs.specs.Kinds.{are_continuous}
 use Rattle.solve_defs.specs.Path.{an_end}
 use Rattle.solve_defs.specs.Plain.{Node, Placed, Progress, Search, Turn, at_fractional, at_point, begun, best_turn, bound_turn, finish, first_fractional, improves, node_turn, outcome, over, pointless_turn, ray_turn, split_turn, unbounded_turn, with_finished, with_node}
-use Rattle.solve_defs.specs.Values.{has_integers}
 use Rattle.solve_defs.specs.declared.cut.Cut.{Cut}
 use Rattle.solve_defs.specs.declared.solving.LpEnd.{LpEnd}
 use Rattle.solve_defs.specs.declared.solving.LpEnd.TheVariants.{Best, NoPoint, Unbounded}
@@ -129,7 +129,7 @@ ray_meets m p P s before (Ok both) all = all.ends _ _ (ray_end (with_node s))
 
 unbounded_meets : (m : Model) (p : Params) (P : Progress → Type 0) (s : Search) (node : Node) → Everywhere m p s.pivots (suc s.nodes) (node.cuts ∷ s.waiting) P → P (unbounded_turn m s node).progress
 unbounded_meets m p P s node all =
-    cond_both {A = Turn} (has_integers m) _ _ (λ t. P t.progress) (λ _. all.ends _ _ (open_end (with_node s))) (λ _. ray_meets m p P s (node.cuts ∷ s.waiting) _ all)
+    cond_both {A = Turn} (are_continuous m.vars) _ _ (λ t. P t.progress) (λ _. ray_meets m p P s (node.cuts ∷ s.waiting) _ all) (λ _. all.ends _ _ (open_end (with_node s)))
 
 pub end_meets : (m : Model) (p : Params) (P : Progress → Type 0) (s : Search) (node : Node) (e : LpEnd) → Everywhere m p s.pivots (suc s.nodes) (node.cuts ∷ s.waiting) P → P (node_turn m p s node (an_end e)).progress
 end_meets m p P s node Best all = best_meets m p P s node all

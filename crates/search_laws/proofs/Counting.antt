@@ -15,17 +15,18 @@ use Rattle.model_data.specs.declared.solution.WideAt.{WideAt}
 use Rattle.dictionary.specs.Dictionary.{Dictionary}
 use Rattle.dictionary.specs.declared.standard.Std.{Std}
 use Rattle.solve_defs.specs.Ends.{point_of}
+use Rattle.solve_defs.specs.Kinds.{are_continuous}
 use Rattle.solve_defs.specs.Path.{Coming, Entering, a_pivot, an_end, coming, entry_count, further, here, next}
 use Rattle.solve_defs.specs.Plain.{Node, Placed, Progress, Search, Turn, at_fractional, at_point, begun, begun_with, best_turn, both_back, bound_turn, bound_weights, cut_off, farkas_weights, first_fractional, going, improves, node_turn, outcome, over, pivot_turn, pivoted_to, plain_cut, pointless_turn, ray_turn, rooted, run, silent, split_turn, start, stopped, turn, turn_at, turn_on, unbounded_turn, with_finished}
 use Rattle.solve_defs.specs.StandardForm.{point_back, shapes_of, standard_form}
-use Rattle.solve_defs.specs.Values.{floor_of, has_integers, whole}
+use Rattle.solve_defs.specs.Values.{floor_of, whole}
 use Rattle.solve_defs.specs.declared.cut.Cut.{Cut}
 use Rattle.solve_defs.specs.declared.solving.LpEnd.TheVariants.{Best, NoPoint, Unbounded}
 use Rattle.solve_defs.specs.declared.status.TheConstants.{INFEASIBLE, INF_OR_UNBD, INTERRUPTED, ITERATION_LIMIT, NODE_LIMIT, NUMERIC, OPTIMAL, UNBOUNDED, WORK_LIMIT}
 use Rattle.search_laws.specs.Counts.{CountsNodes, IsDivided, nodes_below}
 use Rattle.solve_defs.specs.Relaxations.{IsReached}
 use Rattle.search_laws.specs.Searches.{with_own}
-use Rattle.search_laws.specs.Turns.{Meets}
+use Rattle.search_laws.specs.Turns.{KeepsOrEnds}
 use Rattle.search_laws.proofs.Runs.{run-going, run-none, run-over}
 use Rattle.search_laws.proofs.Steps.{read}
 use Rattle.solve_defs.specs.Bounds.{at_least_cut, at_most_cut}
@@ -41,7 +42,7 @@ pub record Counted (m : Model) (splits : List Cut → ℕ) (most : ℕ) (s : Sea
   pub node : IfSome s.node (λ node. IsReached m node.cuts node.dictionary)
 
 abbrev pub Leads : Model → Params → (List Cut → ℕ) → ℕ → Progress → Type 0
-Leads m p splits most = Meets (Counted m splits most) (λ o cert. CountsNodes p most o)
+Leads m p splits most = KeepsOrEnds (Counted m splits most) (λ o cert. CountsNodes p most o)
 
 counts : (p : Params) (most status : ℕ) (s : Search) (point : Option Point) (wide : Option WideAt) → s.nodes ≤ most → status ≢ NODE_LIMIT → CountsNodes p most (outcome status s point wide)
 counts p most status s point wide nodes other = record { nodes = nodes; enough = λ _. other }
@@ -152,8 +153,8 @@ ray_leads m p splits most s node (Ok both) fits = last_counts p splits most UNBO
 
 unbounded_leads : (m : Model) (p : Params) (splits : List Cut → ℕ) (most : ℕ) (s : Search) (node : Node) → Fits splits most s node → Leads m p splits most (unbounded_turn m s node).progress
 unbounded_leads m p splits most s node fits =
-    cond_both {A = Turn} (has_integers m) _ (ray_turn s (both_back m node)) (λ t. Leads m p splits most t.progress)
-    (λ _. last_counts p splits most INF_OR_UNBD s node None None fits (λ e. absurd (omega (arith, e)))) (λ _. ray_leads m p splits most s node (both_back m node) fits)
+    cond_both {A = Turn} (are_continuous m.vars) (ray_turn s (both_back m node)) _ (λ t. Leads m p splits most t.progress)
+    (λ _. ray_leads m p splits most s node (both_back m node) fits) (λ _. last_counts p splits most INF_OR_UNBD s node None None fits (λ e. absurd (omega (arith, e))))
 
 node_leads : (m : Model) (p : Params) (splits : List Cut → ℕ) (most : ℕ) (s : Search) (node : Node) (c : Coming) → IsDivided m splits → Fits splits most s node → IsReached m node.cuts node.dictionary
     → coming node.dictionary ≡ c → Leads m p splits most (node_turn m p s node c).progress

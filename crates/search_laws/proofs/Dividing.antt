@@ -13,10 +13,11 @@ use Rattle.model_data.specs.declared.model.Var.{Var}
 use Rattle.model_data.specs.declared.params.Params.{Params}
 use Rattle.solve_defs.specs.Bounds.{Bounds, at_least_cut, at_most_cut, both, bounds_from, cut_bounds, greater_bound, lesser_bound, own_bounds, with_cuts}
 use Rattle.solve_defs.specs.Plain.{Placed, first_fractional, plain_cut}
-use Rattle.solve_defs.specs.Points.{AtMost, HasValues, IsWithin, SameValue, quotient, ratio}
+use Rattle.solve_defs.specs.Points.{AtMost, HasValues, IsWithin, SameValue, quotient, ratio, relaxation}
 use Rattle.solve_defs.specs.StandardForm.{Shape, free, mirrored, point_back, point_value, shapes_of, shifted, values_from, width}
 use Rattle.solve_defs.specs.Values.{floor_of, is_whole, value_at}
 use Rattle.solve_defs.specs.declared.cut.Cut.{Cut}
+use Rattle.solve_defs.proofs.Domains.{feasible_within}
 use Rattle.solve_defs.proofs.Relaxed.{effective_bounds-relaxation}
 use Rattle.frac128.proofs.Chains.{difference_is, same_ok, sum_is, through}
 use Rattle.search_laws.specs.Counts.{CountsNodes, IsClosed, IsDivided, nodes_below, ranges_from, splits_within}
@@ -143,7 +144,7 @@ pub divided : (m : Model) → RelaxationLaw m → IsClosed m → IsDivided m (sp
 divided m law closed cuts d xs at next reached comes is_point is_first sum =
     let best = law.point cuts d xs reached comes is_point in
     let f = found 0 m.vars cuts best.X best.d xs at best.best.feasible.above_zero is_first
-    (subst (λ bounds. AllZip (λ b n. IsWithin b (quotient n best.d)) bounds best.X) (effective_bounds-relaxation m cuts) best.best.feasible.bounds) best.values
+    (subst (λ bounds. AllZip (λ b n. IsWithin b (quotient n best.d)) bounds best.X) (effective_bounds-relaxation m cuts) (feasible_within (relaxation m cuts) best.X best.d best.best.feasible)) best.values
     (low_point (shapes_of m cuts) _ xs is_point) closed in
     let k = floor_of at.value in
     let strict = left_out at.value next f.low f.fraction sum in

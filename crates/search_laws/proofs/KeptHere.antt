@@ -21,6 +21,7 @@ use Rattle.solve_defs.specs.Plain.{Placed, first_fractional}
 use Rattle.solve_defs.specs.Points.{AtMost, Compares, HasValues, IsFeasiblePoint, IsWithin, KeepsRow, Ratio, SameValue, objective_value, quotient, ratio, relaxation, row_value}
 use Rattle.solve_defs.specs.Values.{is_whole}
 use Rattle.solve_defs.specs.declared.cut.Cut.{Cut}
+use Rattle.solve_defs.proofs.Domains.{bound_looks, integer_looks, whole_look, within_look}
 use Rattle.solve_defs.proofs.KeptPoints.{objective_sum, row_sum, same_by, same_low}
 use Rattle.solve_defs.proofs.LeafBounds.{objective_den}
 use Rattle.solve_defs.proofs.LeafShares.{row_den}
@@ -64,26 +65,26 @@ within_shown b n d x some same within = and_from (is_above b.lower x) (is_under 
     under_shown (Some u) h = at_most_shown x u (at_most_from (quotient n d) (ratio u) x u some (omega arith) (same_low n d x some same) refl h)
 
 bounds_shown : (X : List ℤ) (d : ℕ) (xs : List Fraction) (number : ℕ) (bounds : List Bounds) → 0 < d → HasValues X d xs → AllZip (λ b n. IsWithin b (quotient n d)) bounds X
-    → All Holds (map point_bound (enumerate_from number (zip bounds xs)))
+    → All Holds (map within_look (enumerate_from number (zip bounds xs)))
 bounds_shown X d xs number [] some same each = All-nil Holds
 bounds_shown X d [] number (b ∷ bounds) some same each = All-nil Holds
 bounds_shown [] d (x ∷ xs) number (b ∷ bounds) some same each = absurd each
 bounds_shown (n ∷ X) d (x ∷ xs) number (b ∷ bounds) some same each =
-    All-cons Holds (point_bound (number, (b, x))) (map point_bound (enumerate_from (number + 1) (zip bounds xs)))
+    All-cons Holds (within_look (number, (b, x))) (map within_look (enumerate_from (number + 1) (zip bounds xs)))
     (within_shown b n d x some same.0 each.0) (bounds_shown X d xs (number + 1) bounds some same.1 each.1)
 
 some_none : (v : Placed) → ◌≡◌ {A = Option Placed} (Some v) None → ⊥
 some_none v h = absurd (cc)
 
-integers_shown : (number place : ℕ) (vars : List Var) (xs : List Fraction) → first_fractional place vars xs ≡ None → All Holds (map point_integer (enumerate_from number (zip vars xs)))
+integers_shown : (number place : ℕ) (vars : List Var) (xs : List Fraction) → first_fractional place vars xs ≡ None → All Holds (map whole_look (enumerate_from number (zip vars xs)))
 integers_shown number place [] xs none = All-nil Holds
 integers_shown number place (v ∷ vars) [] none = All-nil Holds
 integers_shown number place (v ∷ vars) (x ∷ xs) none =
     let own = is_integer v.kind && not (is_whole x) in
     let this = Some record { place = place; value = x } in
-    cond_both {A = Option Placed} own this (first_fractional (suc place) vars xs) (λ o. o ≡ None → All Holds (map point_integer (enumerate_from number (zip (v ∷ vars) (x ∷ xs)))))
+    cond_both {A = Option Placed} own this (first_fractional (suc place) vars xs) (λ o. o ≡ None → All Holds (map whole_look (enumerate_from number (zip (v ∷ vars) (x ∷ xs)))))
     (λ _ is. absurd (some_none record { place = place; value = x } is))
-    (λ passed later. All-cons Holds (point_integer (number, (v, x))) (map point_integer (enumerate_from (number + 1) (zip vars xs)))
+    (λ passed later. All-cons Holds (whole_look (number, (v, x))) (map whole_look (enumerate_from (number + 1) (zip vars xs)))
     (⊎_elim (λ other. or_left (not (is_integer v.kind)) (is_whole x) (not_from_false (is_integer v.kind) other))
     (λ whole. or_right (not (is_integer v.kind)) (is_whole x) (not-false (is_whole x) whole))
     (and_cases (is_integer v.kind) (not (is_whole x)) passed))
@@ -96,7 +97,7 @@ pub kept_here : (m : Model) (cuts : List Cut) (p : Point) → IsFeasiblePoint (r
 kept_here m cuts p point long none =
     let some = point.feasible.above_zero in
     let rows = map (point_row p.xs) (enumerate_from 1 m.rows) in
-    let bounds = map point_bound (enumerate_from 1 (zip (effective_bounds m []) p.xs)) in
+    let bounds = map point_bound (enumerate_from 1 (zip m.vars p.xs)) in
     let integers = map point_integer (enumerate_from 1 (zip m.vars p.xs)) in
     record {
       long = long;
@@ -104,8 +105,9 @@ kept_here m cuts p point long none =
           (All-append Holds (rows ++ bounds) integers
           (All-append Holds rows bounds
           (rows_shown point.X point.d p.xs 1 m.rows some point.values point.feasible.rows)
-          (bounds_shown point.X point.d p.xs 1 (effective_bounds m []) some point.values (bounds_kept m cuts point.X point.d point.feasible)))
-          (integers_shown 1 0 m.vars p.xs none))
+          (subst (All Holds) (sym (bound_looks 0 1 m.vars p.xs))
+          (bounds_shown point.X point.d p.xs 1 (effective_bounds m []) some point.values (bounds_kept m cuts point.X point.d point.feasible))))
+          (subst (All Holds) (sym (integer_looks 1 m.vars p.xs)) (integers_shown 1 0 m.vars p.xs none)))
           (All-cons Holds (point_value m p) []
           (same_shown (total_of m.constant (objective_steps m p.xs)) p.value
           (same_from (objective_value m point.X point.d) (total_of m.constant (objective_steps m p.xs)) p.value (objective_den m point.X point.d some)

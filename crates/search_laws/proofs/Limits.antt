@@ -16,16 +16,16 @@ use Rattle.model_data.specs.declared.solution.CertNode.{CertNode}
 use Rattle.model_data.specs.declared.solution.CertNode.TheVariants.{Split}
 use Rattle.dictionary.specs.Dictionary.{Dictionary, opening}
 use Rattle.dictionary.specs.declared.standard.Std.{Std}
+use Rattle.solve_defs.specs.Kinds.{are_continuous}
 use Rattle.solve_defs.specs.Path.{Coming, Entering, a_pivot, an_end, coming, entry_count, next}
 use Rattle.solve_defs.specs.Plain.{Node, Placed, Progress, Run, Search, Turn, at_fractional, at_point, begun, begun_with, best_turn, bound_turn, cut_off, finish, going, improves, next_node, node_turn, outcome, over, pivot_turn, pivoted_to, plain_cut, plain_run, pointless_turn, ray_turn, rooted, run, silent, split_turn, start, stopped, turn, turn_at, turn_limit, turn_on, unbounded_turn, with_finished}
 use Rattle.solve_defs.specs.StandardForm.{standard_form}
-use Rattle.solve_defs.specs.Values.{has_integers}
 use Rattle.solve_defs.specs.declared.cut.Cut.{Cut}
 use Rattle.solve_defs.specs.declared.solving.LpEnd.{LpEnd}
 use Rattle.solve_defs.specs.declared.solving.LpEnd.TheVariants.{Best, NoPoint, Unbounded}
 use Rattle.solve_defs.specs.declared.status.TheConstants.{ITERATION_LIMIT, NODE_LIMIT, WORK_LIMIT}
 use Rattle.solve_defs.specs.declared.solving.Events.{Events}
-use Rattle.search_laws.specs.Turns.{IsOver, KeepsLimits, Meets, then_on}
+use Rattle.search_laws.specs.Turns.{IsOver, KeepsLimits, KeepsOrEnds, then_on}
 use Rattle.search_laws.proofs.Runs.{run-going, run-more, run-none, run-over}
 use Rattle.solve_defs.specs.Bounds.{at_least_cut, at_most_cut}
 
@@ -54,7 +54,7 @@ kept p s status point wide pivots work nodes = record { pivots = pivots; nodes =
 
 -- where a turn leads
 abbrev pub Leads : Params → ℕ → ℕ → Progress → Type 0
-Leads p pivots nodes = Meets (Stage p pivots nodes) (Ends p)
+Leads p pivots nodes = KeepsOrEnds (Stage p pivots nodes) (Ends p)
 
 begins : (p : Params) (s : Search) (cuts : List Cut) (later : List (List Cut)) (form : Result Std Wide) → s.pivots ≤ p.iterations → s.work ≤ p.work → s.nodes < p.nodes
     → Leads p s.pivots s.nodes (begun_with s cuts later form)
@@ -131,7 +131,7 @@ ray_leads p s (Ok both) pivots work nodes = record { pivots = pivots; nodes = om
 
 unbounded_leads : (m : Model) (p : Params) (s : Search) (node : Node) → s.pivots ≤ p.iterations → s.work ≤ p.work → s.nodes < p.nodes → Leads p s.pivots (suc s.nodes) (unbounded_turn m s node).progress
 unbounded_leads m p s node pivots work nodes =
-    cond_both {A = Turn} (has_integers m) _ _ (λ t. Leads p s.pivots (suc s.nodes) t.progress) (λ _. record { pivots = pivots; nodes = omega (arith, nodes); work = work }) (λ _. ray_leads p s _ pivots work nodes)
+    cond_both {A = Turn} (are_continuous m.vars) _ _ (λ t. Leads p s.pivots (suc s.nodes) t.progress) (λ _. ray_leads p s _ pivots work nodes) (λ _. record { pivots = pivots; nodes = omega (arith, nodes); work = work })
 
 -- a node that ends
 pub end_leads : (m : Model) (p : Params) (s : Search) (node : Node) (e : LpEnd) → s.pivots ≤ p.iterations → s.work ≤ p.work → s.nodes < p.nodes → Leads p s.pivots (suc s.nodes) (node_turn m p s node (an_end e)).progress
@@ -146,7 +146,7 @@ pub record Counts (p : Params) (n : ℕ) (s : Search) : Type 0 where
   pub within : Within p s
 
 abbrev pub Totals : Params → ℕ → Progress → Type 0
-Totals p n = Meets (Counts p n) (Ends p)
+Totals p n = KeepsOrEnds (Counts p n) (Ends p)
 
 counted : (p : Params) (a b : ℕ) (at : Progress) → Leads p a b at → Totals p (a + b) at
 counted p a b (going s) stage = let pivots = stage.pivots_are in let nodes = stage.nodes_are in record { total = omega (arith, pivots, nodes); within = stage.within }
@@ -256,12 +256,12 @@ plain_cut_keeps m p (suc k) =
 
 -- ---- one turn, and how many
 
-totals_meet : (p : Params) (n : ℕ) (at : Progress) → Totals p n at → Meets (λ t. t.pivots + t.nodes ≡ n) (λ o cert. KeepsLimits p o) at
+totals_meet : (p : Params) (n : ℕ) (at : Progress) → Totals p n at → KeepsOrEnds (λ t. t.pivots + t.nodes ≡ n) (λ o cert. KeepsLimits p o) at
 totals_meet p n (going s) counts = counts.total
 totals_meet p n (over o cert) keeps = keeps
 
 pub turn_raises : (m : Model) (p : Params) (s : Search) (node : Node) → s.node ≡ Some node → s.pivots ≤ p.iterations → s.work ≤ p.work → s.nodes < p.nodes
-    → Meets (λ t. t.pivots + t.nodes ≡ suc (s.pivots + s.nodes)) (λ o cert. KeepsLimits p o) (turn m p s).progress
+    → KeepsOrEnds (λ t. t.pivots + t.nodes ≡ suc (s.pivots + s.nodes)) (λ o cert. KeepsLimits p o) (turn m p s).progress
 turn_raises m p s node is pivots work nodes =
     totals_meet p (suc (s.pivots + s.nodes)) (turn m p s).progress
     (turn_leads m p (s.pivots + s.nodes) s record { total = refl; within = record { node = node; is_node = is; pivots = pivots; work = work; nodes = nodes } })

@@ -12,6 +12,7 @@ use Rattle.solve_defs.specs.Points.{AtMost, IsBetter, IsFeasible, IsUnbounded, I
 use Rattle.solve_defs.specs.Values.{is_at_most}
 use Rattle.solve_defs.specs.declared.cut.Cut.{Cut}
 use Rattle.solve_defs.proofs.CasePoints.{relaxed_whole}
+use Rattle.solve_defs.proofs.Domains.{feasible_from, feasible_within}
 use Rattle.solve_defs.proofs.PointValues.{at_most-low, at_most_shown, low, low-at_most}
 use Rattle.solve_defs.proofs.Relaxed.{effective_bounds-relaxation, length-bounds_from, objective-relaxation, point_long}
 
@@ -56,18 +57,16 @@ all_kept place (v ∷ vars) cuts (n ∷ X) d some each = (within_kept place (own
 -- a point of a relaxation is within the bounds without the cuts
 pub bounds_kept : (m : Model) (cuts : List Cut) (X : List ℤ) (d : ℕ) → IsFeasible (relaxation m cuts) X d → AllZip (λ b n. IsWithin b (quotient n d)) (effective_bounds m []) X
 bounds_kept m cuts X d feasible =
-    all_kept 0 m.vars cuts X d feasible.above_zero (subst (λ bounds. AllZip (λ b n. IsWithin b (quotient n d)) bounds X) (effective_bounds-relaxation m cuts) feasible.bounds)
+    all_kept 0 m.vars cuts X d feasible.above_zero (subst (λ bounds. AllZip (λ b n. IsWithin b (quotient n d)) bounds X) (effective_bounds-relaxation m cuts) (feasible_within (relaxation m cuts) X d feasible))
 
 -- ---- the root
 
 -- a point of a relaxation is one of the root's
 pub root_point : (m : Model) (cuts : List Cut) (X : List ℤ) (d : ℕ) → IsFeasible (relaxation m cuts) X d → IsFeasible (relaxation m []) X d
-root_point m cuts X d feasible = record {
-  above_zero = feasible.above_zero;
-  rows = feasible.rows;
-  bounds = subst (λ bounds. AllZip (λ b n. IsWithin b (quotient n d)) bounds X) (sym (effective_bounds-relaxation m [])) (bounds_kept m cuts X d feasible);
-  whole = relaxed_whole m.vars (effective_bounds m []) X d (length-bounds_from 0 m.vars []) (point_long m cuts X d feasible);
-}
+root_point m cuts X d feasible =
+    feasible_from (relaxation m []) X d feasible.above_zero feasible.rows
+    (subst (λ bounds. AllZip (λ b n. IsWithin b (quotient n d)) bounds X) (sym (effective_bounds-relaxation m [])) (bounds_kept m cuts X d feasible))
+    (relaxed_whole m.vars (effective_bounds m []) X d (length-bounds_from 0 m.vars []) (point_long m cuts X d feasible))
 
 -- the cuts don't change the objective
 pub objective_kept : (m : Model) (cuts : List Cut) (X : List ℤ) (d : ℕ) → objective_value (relaxation m cuts) X d ≡ objective_value m X d

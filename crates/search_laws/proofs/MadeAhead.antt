@@ -13,7 +13,7 @@ use Rattle.solve_defs.specs.declared.cut.Cut.{Cut}
 use Rattle.solve_defs.specs.declared.status.TheConstants.{NODE_LIMIT}
 use Rattle.frac128.proofs.Chains.{same_ok}
 use Rattle.solve_defs.specs.Nodes.{Ahead, IsMade, IsRightAhead, Left, Relaxed, at_end, last_node, left_by, left_turn, out_of_pivots, out_of_work, relaxed, taken, too_wide, visited, visited_with, visits, visits_with, where_left}
-use Rattle.search_laws.specs.Turns.{Meets}
+use Rattle.search_laws.specs.Turns.{KeepsOrEnds}
 use Rattle.search_laws.proofs.ByNodes.{plain_by_nodes}
 use Rattle.search_laws.proofs.Closing.{end_meets}
 use Rattle.search_laws.proofs.Relaxing.{taken_same}
@@ -29,7 +29,7 @@ record Opens (m : Model) (s : Search) : Type 0 where
   opens : node.dictionary ≡ opening form
 
 abbrev AtBeginning : Model → Progress → Type 0
-AtBeginning m = Meets (Opens m) (λ o cert. Unit {0})
+AtBeginning m = KeepsOrEnds (Opens m) (λ o cert. Unit {0})
 
 begins_opens : (m : Model) (s : Search) (cuts : List Cut) (later : List (List Cut)) (form : Result Std Wide) → standard_form m cuts ≡ form → AtBeginning m (begun_with s cuts later form)
 begins_opens m s cuts later (Ok form) is = record { node = record { cuts = cuts; dictionary = opening form }; is_node = refl; form = form; is_form = is; opens = refl }

@@ -12,10 +12,11 @@ use Rattle.model_data.specs.declared.solution.Outcome.{Outcome}
 use Rattle.model_data.specs.declared.solution.Point.{Point}
 use Rattle.model_data.specs.declared.solution.WideAt.{WideAt}
 use Rattle.solve_defs.specs.Certificates.{IsValid, Subtree, are_whole, certificate_looks, cuts_of, has_shape, is_bound, is_certificate_for, is_node_for, is_point_for, look_at, point_looks, ray_looks, under}
+use Rattle.solve_defs.specs.Kinds.{are_continuous}
 use Rattle.solve_defs.specs.Looks.{Holds}
 use Rattle.solve_defs.specs.Plain.{Search, outcome}
 use Rattle.solve_defs.specs.Points.{IsUnbounded, relaxation}
-use Rattle.solve_defs.specs.Values.{has_integers, turned}
+use Rattle.solve_defs.specs.Values.{turned}
 use Rattle.solve_defs.specs.declared.status.TheConstants.{INFEASIBLE, INF_OR_UNBD, OPTIMAL, UNBOUNDED}
 use Rattle.solve_defs.specs.declared.verdict.Place.TheVariants.{Shape}
 use Rattle.search_laws.specs.Searches.{IsKept, IsRight, IsTreeTo}
@@ -79,17 +80,17 @@ finished_right m s t = by_point s.incumbent t
 
 -- ---- an unbounded relaxation
 
-pub open_right : (m : Model) (s : Search) → has_integers m ≡ true → IsUnbounded (relaxation m []) → IsRight m (outcome INF_OR_UNBD s None None) Nothing
-open_right m s integers unbounded = record { valid = valid_from m (outcome INF_OR_UNBD s None None) Nothing tt refl (All-nil Holds); relaxed = λ _. (integers, unbounded) }
+pub open_right : (m : Model) (s : Search) → are_continuous m.vars ≡ false → IsUnbounded (relaxation m []) → IsRight m (outcome INF_OR_UNBD s None None) Nothing
+open_right m s other unbounded = record { valid = valid_from m (outcome INF_OR_UNBD s None None) Nothing tt refl (All-nil Holds); relaxed = λ _. (other, unbounded) }
 
-pub ray_right : (m : Model) (s : Search) (point ray : List Fraction) → has_integers m ≡ false → length point ≡ length m.vars → length ray ≡ length m.vars → All Holds (ray_looks m point ray)
+pub ray_right : (m : Model) (s : Search) (point ray : List Fraction) → are_continuous m.vars ≡ true → length point ≡ length m.vars → length ray ≡ length m.vars → All Holds (ray_looks m point ray)
     → IsRight m (outcome UNBOUNDED s None None) (Ray point ray)
 ray_right m s point ray continuous long ray_long hold =
     let o = outcome UNBOUNDED s None None in
     record {
       valid = valid_from m o (Ray point ray) tt
-          (and_from (not (has_integers m) && (length point == length m.vars)) (length ray == length m.vars)
-          (and_from (not (has_integers m)) (length point == length m.vars) (not_from_false (has_integers m) continuous) (eq-eqb (length point) (length m.vars) long))
+          (and_from (are_continuous m.vars && (length point == length m.vars)) (length ray == length m.vars)
+          (and_from (are_continuous m.vars) (length point == length m.vars) continuous (eq-eqb (length point) (length m.vars) long))
           (eq-eqb (length ray) (length m.vars) ray_long))
           hold;
       relaxed = λ e. absurd (omega (arith, e));

@@ -34,11 +34,11 @@ sum_one k = ap (λ n. lowest n 1) (ends k) ∙ lowest-self (whole (k +ℤ pos 1)
 pub next_is : (k : ℤ) (next : Fraction) → checked_sum (whole k) one_value ≡ Ok next → next.num ≡ k +ℤ pos 1
 next_is k next h = ap (λ x. x.num) (sum_is (whole k) one_value next h ∙ sum_one k)
 
-fitted : (fits : Bool) (value : Fraction) (op : Op) (x y z : Fraction) → value_or_wide fits value op x y ≡ Ok z → fits ≡ true
+pub fitted : (fits : Bool) (value : Fraction) (op : Op) (x y z : Fraction) → value_or_wide fits value op x y ≡ Ok z → fits ≡ true
 fitted true value op x y z h = refl
 fitted false value op x y z h = absurd cc
 
-one_divisor : 1 / gcd 1 1 ≡ 1
+pub one_divisor : 1 / gcd 1 1 ≡ 1
 unfolding gcd gcd_within
 one_divisor = refl
 

@@ -21,18 +21,19 @@ use Rattle.dictionary.specs.declared.standard.Std.{Std}
 use Rattle.solve_defs.specs.Certificates.{under, value_of}
 use Rattle.solve_defs.specs.Ends.{dual_of, farkas_of, point_of, ray_of}
 use Rattle.solve_defs.specs.Looks.{Holds}
+use Rattle.solve_defs.specs.Kinds.{are_continuous}
 use Rattle.solve_defs.specs.Path.{Coming, Entering, a_pivot, an_end, coming, entry_count, further, here, next}
 use Rattle.solve_defs.specs.Plain.{Node, Placed, Progress, Search, Turn, at_fractional, at_point, begun, begun_with, best_turn, both_back, bound_turn, cut_off, plain_cut, run, bound_weights, farkas_weights, first_fractional, going, improves, node_turn, outcome, over, pivot_turn, pivoted_to, pointless_turn, ray_turn, rooted, silent, split_turn, start, stopped, turn, turn_at, turn_on, unbounded_turn, with_finished}
 use Rattle.solve_defs.specs.Points.{IsBestPoint, IsFeasiblePoint, relaxation}
 use Rattle.solve_defs.specs.StandardForm.{point_back, ray_back, shapes_of, standard_form}
-use Rattle.solve_defs.specs.Values.{floor_of, has_integers, turned, whole}
+use Rattle.solve_defs.specs.Values.{floor_of, turned, whole}
 use Rattle.solve_defs.specs.declared.cut.Cut.{Cut}
 use Rattle.solve_defs.specs.declared.solving.LpEnd.TheVariants.{Best, NoPoint, Unbounded}
 use Rattle.solve_defs.specs.declared.status.TheConstants.{INF_OR_UNBD, INTERRUPTED, ITERATION_LIMIT, NODE_LIMIT, NUMERIC, UNBOUNDED, WORK_LIMIT}
 use Rattle.frac128.proofs.Chains.{same_ok, through}
 use Rattle.solve_defs.specs.Relaxations.{IsReached, RelaxationLaw}
 use Rattle.search_laws.specs.Searches.{IsKept, IsNoWorse, IsRight, IsTreeTo, Stands, with_own}
-use Rattle.search_laws.specs.Turns.{Meets}
+use Rattle.search_laws.specs.Turns.{KeepsOrEnds}
 use Rattle.search_laws.proofs.Grown.{with_bound, with_farkas, with_split}
 use Rattle.search_laws.proofs.KeptHere.{kept_here}
 use Rattle.search_laws.proofs.Looser.{unbounded_root}
@@ -47,7 +48,7 @@ use Rattle.solve_defs.specs.Bounds.{at_least_cut, at_most_cut}
 
 -- what a turn has to keep
 abbrev pub Leads : Model → Progress → Type 0
-Leads m = Meets (Stands m) (IsRight m)
+Leads m = KeepsOrEnds (Stands m) (IsRight m)
 
 -- ---- ends
 
@@ -172,7 +173,7 @@ best_leads m p s node law t reached comes =
 -- ---- an unbounded relaxation
 
 ray_leads : (m : Model) (s : Search) (node : Node) (both : Result (List Fraction × List Fraction) Wide) → RelaxationLaw m → IsTreeTo m s.incumbent s.tree (node.cuts ∷ s.waiting)
-    → IsReached m node.cuts node.dictionary → coming node.dictionary ≡ an_end Unbounded → has_integers m ≡ false → both_back m node ≡ both → Leads m (ray_turn s both).progress
+    → IsReached m node.cuts node.dictionary → coming node.dictionary ≡ an_end Unbounded → are_continuous m.vars ≡ true → both_back m node ≡ both → Leads m (ray_turn s both).progress
 ray_leads m s node (Err wide) law t reached comes continuous is = refused_right m s _ t.kept
 ray_leads m s node (Ok both) law t reached comes continuous is =
     let shapes = shapes_of m node.cuts in
@@ -190,9 +191,9 @@ ray_leads m s node (Ok both) law t reached comes continuous is =
 unbounded_leads : (m : Model) (s : Search) (node : Node) → RelaxationLaw m → IsTreeTo m s.incumbent s.tree (node.cuts ∷ s.waiting) → IsReached m node.cuts node.dictionary
     → coming node.dictionary ≡ an_end Unbounded → Leads m (unbounded_turn m s node).progress
 unbounded_leads m s node law t reached comes =
-    cond_both {A = Turn} (has_integers m) _ (ray_turn s (both_back m node)) (λ t. Leads m t.progress)
-    (λ integers. open_right m (record s { nodes = suc s.nodes }) integers (unbounded_root m node.cuts (law.unbounded node.cuts node.dictionary reached comes)))
+    cond_both {A = Turn} (are_continuous m.vars) (ray_turn s (both_back m node)) _ (λ t. Leads m t.progress)
     (λ continuous. ray_leads m s node (both_back m node) law t reached comes continuous refl)
+    (λ other. open_right m (record s { nodes = suc s.nodes }) other (unbounded_root m node.cuts (law.unbounded node.cuts node.dictionary reached comes)))
 
 -- ---- a turn
 

@@ -15,7 +15,7 @@ use Rattle.solve_defs.specs.Relaxations.{IsReached}
 use Rattle.solve_defs.specs.StandardForm.{standard_form}
 use Rattle.solve_defs.specs.declared.cut.Cut.{Cut}
 use Rattle.solve_defs.specs.declared.status.TheConstants.{INFEASIBLE, INTERRUPTED, ITERATION_LIMIT, NODE_LIMIT, OPTIMAL, WORK_LIMIT}
-use Rattle.search_laws.specs.Turns.{IsOver, Meets, PassesWork, SaysWhy}
+use Rattle.search_laws.specs.Turns.{IsOver, KeepsOrEnds, PassesWork, SaysWhy}
 use Rattle.search_laws.proofs.Closing.{IsNodeEnd, end_meets, wide_end}
 use Rattle.search_laws.proofs.Limits.{first_turn, plain_over, rooted_is}
 use Rattle.search_laws.proofs.Runs.{run-going, run-none, run-over, turns_made}
@@ -72,7 +72,7 @@ record UnderWay (m : Model) (p : Params) (s : Search) : Type 0 where
   nodes : s.nodes < p.nodes
 
 abbrev Leads : Model → Params → Progress → Type 0
-Leads m p = Meets (UnderWay m p) (λ o cert. IsEnd m p o)
+Leads m p = KeepsOrEnds (UnderWay m p) (λ o cert. IsEnd m p o)
 
 begins : (m : Model) (p : Params) (s : Search) (cuts : List Cut) (later : List (List Cut)) (form : Result Std Wide) → standard_form m cuts ≡ form → s.pivots ≤ p.iterations → s.nodes < p.nodes
     → Leads m p (begun_with s cuts later form)

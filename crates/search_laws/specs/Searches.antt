@@ -1,5 +1,5 @@
 -- Where a search stands between two turns: what its tree shows so far, and what is still to come.
-use Rattle.std.specs.Prelude.{◌≡◌, IsTrue, true, false, List, [], ◌∷◌, length, map, All, IfSome, Option, Some, None}
+use Rattle.std.specs.Prelude.{◌≡◌, IsTrue, false, List, [], ◌∷◌, length, map, All, IfSome, Option, Some, None}
 use Rattle.std.specs.List.{list_all, list_any}
 use Rattle.frac128.specs.Order.{IsAtMost}
 use Rattle.model_data.specs.declared.model.Direction.{Direction}
@@ -9,10 +9,12 @@ use Rattle.model_data.specs.declared.solution.CertNode.{CertNode}
 use Rattle.model_data.specs.declared.solution.Outcome.{Outcome}
 use Rattle.model_data.specs.declared.solution.Point.{Point}
 use Rattle.solve_defs.specs.Certificates.{IsValid, Subtree, cuts_of, is_bound, is_node_for, point_looks, tree_looks, under, value_of}
+use Rattle.solve_defs.specs.KeptCuts.{IsKeptCut}
+use Rattle.solve_defs.specs.Kinds.{are_continuous}
 use Rattle.solve_defs.specs.Looks.{Holds}
 use Rattle.solve_defs.specs.Plain.{Node, Search}
 use Rattle.solve_defs.specs.Points.{IsUnbounded, relaxation}
-use Rattle.solve_defs.specs.Values.{has_integers, turned}
+use Rattle.solve_defs.specs.Values.{turned}
 use Rattle.solve_defs.specs.declared.cut.Cut.{Cut}
 use Rattle.solve_defs.specs.declared.status.TheConstants.{INF_OR_UNBD, UNBOUNDED}
 use Rattle.solve_defs.specs.Relaxations.{IsReached}
@@ -52,10 +54,15 @@ pub record Stands (m : Model) (s : Search) : Type 0 where
   pub tree : IsTreeTo m s.incumbent s.tree (with_own s.node s.waiting)
   pub node : IfSome s.node (λ node. IsReached m node.cuts node.dictionary)
 
+-- The bounds of each cut fit, of the node under way and of those that are to begin.
+pub record HasKeptCuts (s : Search) : Type 0 where
+  pub node : IfSome s.node (λ node. All IsKeptCut node.cuts)
+  pub waiting : All (All IsKeptCut) s.waiting
+
 -- an end: the certificate is valid, and a status that claims no certificate says what it says
 pub record IsRight (m : Model) (o : Outcome) (cert : Cert) : Type 0 where
   pub valid : IsValid m o cert
-  pub relaxed : o.status ≡ INF_OR_UNBD → (has_integers m ≡ true) × IsUnbounded (relaxation m [])
+  pub relaxed : o.status ≡ INF_OR_UNBD → (are_continuous m.vars ≡ false) × IsUnbounded (relaxation m [])
 
 -- Where nothing bounds a relaxation, it is the root's, which is the one finished node.
 pub record EndsAtRoot (o : Outcome) : Type 0 where

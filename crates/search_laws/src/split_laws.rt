@@ -9,13 +9,14 @@ ghost use Rattle.model_data.specs.declared.params.Params.{Params};
 ghost use Rattle.solve_defs.specs.Bounds.{at_least_cut, at_most_cut};
 ghost use Rattle.solve_defs.specs.Cases.{IsCasePoint};
 ghost use Rattle.solve_defs.specs.Certificates.{is_integer_number};
-ghost use Rattle.solve_defs.specs.Plain.{plain_cut};
+ghost use Rattle.solve_defs.specs.Plain.{Search, going, plain_cut, run, start};
 ghost use Rattle.solve_defs.specs.Points.{Below, ratio};
 ghost use Rattle.solve_defs.specs.Relaxations.{RelaxationLaw};
 ghost use Rattle.solve_defs.specs.Values.{floor_of, is_whole, whole};
 ghost use Rattle.solve_defs.specs.declared.cut.Cut.{Cut};
 ghost use Rattle.solve_defs.specs.declared.status.TheConstants.{ITERATION_LIMIT};
 ghost use Rattle.search_laws.specs.Counts.{CountsNodes, IsBrief, IsClosed, IsDivided, nodes_below, splits_within};
+ghost use Rattle.search_laws.specs.Searches.{HasKeptCuts};
 
 /// A split on an integer variable loses no point: each one of the node is in the lower part or in the upper one.
 pub fn a_split_loses_no_point()
@@ -30,6 +31,11 @@ pub fn a_split_is_at_the_floor()
     ensures floor { (x : Fraction) → IsFloor x (floor_of x) }
     ensures left_out { (x next : Fraction) → IsInLowestTerms x → IsTrue (not (is_whole x)) → checked_sum (whole (floor_of x)) one_value ≡ Ok next
         → Below (ratio (whole (floor_of x))) (ratio x) × Below (ratio x) (ratio (whole next.num)) }
+{}
+
+/// The bounds of each cut are numbers that a program can keep, whatever the model.
+pub fn the_cuts_of_a_search_fit()
+    ensures { (m : Model) (p : Params) (k : ℕ) (s : Search) → (run m p k (going start)).progress ≡ going s → HasKeptCuts s }
 {}
 
 /// Where each split divides a number that its cuts have, that of the root bounds the nodes. Where each integer variable has both

@@ -52,7 +52,7 @@ impl LpRun {
     {
         form_is_kept(&s);
         Ok(LpRun {
-            dict: Dict::new(alloc, &s)?,
+            dict: Dict::from_std(alloc, s)?,
         })
     }
 

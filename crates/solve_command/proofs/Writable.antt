@@ -22,10 +22,11 @@ use Rattle.dictionary.specs.Dictionary.{Dictionary}
 use Rattle.dictionary.specs.declared.standard.Std.{Std}
 use Rattle.solve_defs.specs.Bounds.{at_least_cut, at_most_cut}
 use Rattle.solve_defs.specs.Certificates.{IsValid}
+use Rattle.solve_defs.specs.Kinds.{are_continuous}
 use Rattle.solve_defs.specs.Path.{Coming, Entering, a_pivot, an_end, coming, entry_count, next}
 use Rattle.solve_defs.specs.Plain.{Node, Placed, Progress, Search, Turn, at_fractional, at_point, begun, begun_with, best_turn, bound_turn, both_back, cut_off, farkas_weights, finish, going, improves, node_turn, over, pivot_turn, pivoted_to, plain_cut, pointless_turn, ray_turn, rooted, run, silent, split_turn, start, stopped, turn, turn_at, turn_on, unbounded_turn, with_finished}
 use Rattle.solve_defs.specs.StandardForm.{low_weights, numbered, row_weights, shapes_of, standard_form, up_weights, weights_back}
-use Rattle.solve_defs.specs.Values.{has_integers, is_zero}
+use Rattle.solve_defs.specs.Values.{is_zero}
 use Rattle.solve_defs.specs.declared.cut.Cut.{Cut}
 use Rattle.solve_defs.specs.declared.solving.LpEnd.TheVariants.{Best, NoPoint, Unbounded}
 use Rattle.solve_defs.proofs.ValidTrees.{tree_shape}
@@ -136,7 +137,7 @@ ray_leads s (Err wide) = refl
 ray_leads s (Ok both) = refl
 
 unbounded_leads : (m : Model) (s : Search) (node : Node) → Leads (unbounded_turn m s node).progress
-unbounded_leads m s node = cond_both {A = Turn} (has_integers m) _ _ (λ t. Leads t.progress) (λ _. refl) (λ _. ray_leads s (both_back m node))
+unbounded_leads m s node = cond_both {A = Turn} (are_continuous m.vars) _ _ (λ t. Leads t.progress) (λ _. ray_leads s (both_back m node)) (λ _. refl)
 
 node_leads : (m : Model) (p : Params) (s : Search) (node : Node) (c : Coming) → HasText s → Leads (node_turn m p s node c).progress
 node_leads m p s node (a_pivot entering) text = pivot_leads p s node entering text

@@ -14,6 +14,7 @@ use Rattle.solve_defs.specs.Cases.{IsCasePoint, IsWithinCut}
 use Rattle.solve_defs.specs.Points.{IsFeasible, IsWholeIf, IsWithin, Ratio, quotient, relaxation, relaxed_vars}
 use Rattle.solve_defs.specs.Values.{is_at_most}
 use Rattle.solve_defs.specs.declared.cut.Cut.{Cut}
+use Rattle.solve_defs.proofs.Domains.{feasible_from, feasible_whole, feasible_within}
 use Rattle.solve_defs.proofs.Relaxed.{effective_bounds-relaxation, length-bounds_from}
 
 -- ---- bounds together
@@ -75,14 +76,12 @@ relaxed_whole (v ∷ vars) (b ∷ bounds) [] d same long = absurd (omega (arith,
 relaxed_whole (v ∷ vars) (b ∷ bounds) (n ∷ X) d same long = ((λ whole. absurd (true≢false (sym whole))), relaxed_whole vars bounds X d (omega (arith, same)) (omega (arith, long)))
 
 pub case_point_relaxed : (m : Model) (cuts : List Cut) (X : List ℤ) (d : ℕ) → IsCasePoint m cuts X d → IsFeasible (relaxation m cuts) X d
-case_point_relaxed m cuts X d point = record {
-  above_zero = point.feasible.above_zero;
-  rows = point.feasible.rows;
-  bounds = subst (λ bounds. AllZip (λ b n. IsWithin b (quotient n d)) bounds X) (sym (effective_bounds-relaxation m cuts))
-      (within_from 0 m.vars cuts X X d point.feasible.bounds point.within (λ i. ap (λ j. slice_index_or X j (pos 0)) (add-zero_left i)));
-  whole = relaxed_whole m.vars (effective_bounds m cuts) X d (length-bounds_from 0 m.vars cuts)
-      (AllZip-long (λ v n. IsWholeIf (is_integer v.kind) d n) m.vars X point.feasible.whole);
-}
+case_point_relaxed m cuts X d point =
+    feasible_from (relaxation m cuts) X d point.feasible.above_zero point.feasible.rows
+    (subst (λ bounds. AllZip (λ b n. IsWithin b (quotient n d)) bounds X) (sym (effective_bounds-relaxation m cuts))
+    (within_from 0 m.vars cuts X X d (feasible_within m X d point.feasible) point.within (λ i. ap (λ j. slice_index_or X j (pos 0)) (add-zero_left i))))
+    (relaxed_whole m.vars (effective_bounds m cuts) X d (length-bounds_from 0 m.vars cuts)
+    (AllZip-long (λ v n. IsWholeIf (is_integer v.kind) d n) m.vars X (feasible_whole m X d point.feasible)))
   where
     add-zero_left : (i : ℕ) → 0 + i ≡ i
     add-zero_left i = omega arith

@@ -25,6 +25,7 @@ use Rattle.solve_defs.specs.Points.{AtMost, IsFeasible, IsWholeIf, quotient, rat
 use Rattle.solve_defs.specs.Values.{whole}
 use Rattle.solve_defs.specs.declared.cut.Cut.{Cut}
 use Rattle.solve_defs.proofs.CasePoints.{case_point_relaxed}
+use Rattle.solve_defs.proofs.Domains.{feasible_whole}
 use Rattle.solve_defs.proofs.LeafBounds.{All-left, All-right}
 use Rattle.solve_defs.proofs.LeafLooks.{farkas_holds}
 
@@ -70,7 +71,7 @@ split_sides m cuts number k X d integer point =
     ⊎_elim
     (λ most. inl (further m cuts (at_most_cut (pred_number number) k) X d point record { lower = tt; upper = most }))
     (λ least. inr (further m cuts (at_least_cut (pred_number number) (k +ℤ pos 1)) X d point record { lower = least; upper = tt }))
-    (one_side (slice_index_or X (pred_number number) (pos 0)) k d (whole_number m.vars X d number integer point.feasible.whole))
+    (one_side (slice_index_or X (pred_number number) (pos 0)) k d (whole_number m.vars X d number integer (feasible_whole m X d point.feasible)))
 
 -- ---- all the cases
 

@@ -21,6 +21,7 @@ use Rattle.solve_defs.specs.Columns.{columns_sum}
 use Rattle.frac128.specs.Lowest.{IsInLowestTerms}
 use Rattle.solve_defs.specs.Points.{AtMost, Compares, HasValues, IsFeasible, IsWholeIf, IsWithin, KeepsRow, objective_value, over, quotient, ratio, relaxation, relaxed_vars, row_value, weighted_sum}
 use Rattle.solve_defs.specs.declared.cut.Cut.{Cut}
+use Rattle.solve_defs.proofs.Domains.{feasible_from, feasible_within}
 use Rattle.solve_defs.proofs.FormBounds.{Within}
 use Rattle.solve_defs.proofs.FormLists.{Each, all_from_each, each_from_all, index-map}
 use Rattle.solve_defs.proofs.FormQuotients.{at_least-value, at_most-value, lowest-raw, same_value, value, value-at_least, value-at_most, value-plus, value-step, zero-sum}
@@ -176,18 +177,15 @@ pub record AreFeasible (m : Model) (cuts : List Cut) (xs : List Fraction) : Type
 pub values_feasible : (m : Model) (cuts : List Cut) (X : List ℤ) (d : ℕ) → IsFeasible (relaxation m cuts) X d → AreFeasible m cuts (values_of X d)
 values_feasible m cuts X d h = record {
   rows = rows_hold m.rows X d h.above_zero (each_from_all (KeepsRow X d) m.rows h.rows);
-  bounds = bounds_forth (effective_bounds m cuts) X d h.above_zero (subst (λ bs. AllZip (λ b n. IsWithin b (quotient n d)) bs X) (relaxed_bounds m cuts) h.bounds);
+  bounds = bounds_forth (effective_bounds m cuts) X d h.above_zero (subst (λ bs. AllZip (λ b n. IsWithin b (quotient n d)) bs X) (relaxed_bounds m cuts) (feasible_within (relaxation m cuts) X d h));
 }
 
 pub feasible_values : (m : Model) (cuts : List Cut) (X : List ℤ) (d : ℕ) → 0 < d → AreFeasible m cuts (values_of X d) → IsFeasible (relaxation m cuts) X d
 feasible_values m cuts X d p h =
     let within = bounds_back (effective_bounds m cuts) X d p h.bounds in
-    record {
-      above_zero = p;
-      rows = all_from_each (KeepsRow X d) m.rows (rows_keep m.rows X d p h.rows);
-      bounds = subst (λ bs. AllZip (λ b n. IsWithin b (quotient n d)) bs X) (sym (relaxed_bounds m cuts)) within;
-      whole = none_whole m.vars (effective_bounds m cuts) X d (length-effective_bounds m cuts) within;
-    }
+    feasible_from (relaxation m cuts) X d p (all_from_each (KeepsRow X d) m.rows (rows_keep m.rows X d p h.rows))
+    (subst (λ bs. AllZip (λ b n. IsWithin b (quotient n d)) bs X) (sym (relaxed_bounds m cuts)) within)
+    (none_whole m.vars (effective_bounds m cuts) X d (length-effective_bounds m cuts) within)
 
 -- ---- the objective
 

@@ -25,6 +25,7 @@ use Rattle.solve_defs.specs.Certificates.{compares, is_above, is_under, is_withi
 use Rattle.solve_defs.specs.Looks.{Holds, Step, plus_times, total_of}
 use Rattle.solve_defs.specs.Points.{AtMost, Compares, HasValues, IsFeasiblePoint, IsWholeIf, IsWithin, KeepsRow, Ratio, SameValue, objective_value, quotient, ratio, row_value}
 use Rattle.solve_defs.specs.Values.{is_whole, value_at}
+use Rattle.solve_defs.proofs.Domains.{bound_looks, feasible_from, integer_looks, whole_look, within_look}
 use Rattle.solve_defs.proofs.LeafBounds.{All-left, All-right, objective_den}
 use Rattle.solve_defs.proofs.LeafShares.{row_den}
 use Rattle.solve_defs.proofs.LeafSums.{amount, total_of-steps}
@@ -131,15 +132,15 @@ within b n d x some same shown =
     under_bound (Some u) h = at_most_by (quotient n d) (ratio u) x u some (omega arith) (same_low n d x some same) refl (at_most_holds x u h)
 
 bounds_hold : (X : List ℤ) (d : ℕ) (xs : List Fraction) (number : ℕ) (bounds : List Bounds) → 0 < d → HasValues X d xs → length xs ≡ length bounds
-    → All Holds (map point_bound (enumerate_from number (zip bounds xs))) → AllZip (λ b n. IsWithin b (quotient n d)) bounds X
+    → All Holds (map within_look (enumerate_from number (zip bounds xs))) → AllZip (λ b n. IsWithin b (quotient n d)) bounds X
 bounds_hold [] d [] number [] some same long hold = tt
 bounds_hold [] d (x ∷ xs) number bounds some same long hold = absurd same
 bounds_hold (n ∷ X) d [] number bounds some same long hold = absurd same
 bounds_hold (n ∷ X) d (x ∷ xs) number [] some same long hold = absurd (omega (arith, long))
 bounds_hold [] d [] number (b ∷ bounds) some same long hold = absurd (omega (arith, long))
 bounds_hold (n ∷ X) d (x ∷ xs) number (b ∷ bounds) some same long hold = (
-  within b n d x some same.0 (All-head Holds (point_bound (number, (b, x))) (map point_bound (enumerate_from (number + 1) (zip bounds xs))) hold),
-  bounds_hold X d xs (number + 1) bounds some same.1 (omega (arith, long)) (All-tail Holds (point_bound (number, (b, x))) (map point_bound (enumerate_from (number + 1) (zip bounds xs))) hold),
+  within b n d x some same.0 (All-head Holds (within_look (number, (b, x))) (map within_look (enumerate_from (number + 1) (zip bounds xs))) hold),
+  bounds_hold X d xs (number + 1) bounds some same.1 (omega (arith, long)) (All-tail Holds (within_look (number, (b, x))) (map within_look (enumerate_from (number + 1) (zip bounds xs))) hold),
 )
 
 whole_value : (n : ℤ) (d : ℕ) (x : Fraction) → SameValue (quotient n d) (ratio x) → IsTrue (is_whole x) → d ∣ unsigned_abs n
@@ -159,15 +160,15 @@ integer_holds v n d x same shown integer =
     (or_cases (not (is_integer v.kind)) (is_whole x) shown)
 
 integers_hold : (X : List ℤ) (d : ℕ) (xs : List Fraction) (number : ℕ) (vars : List Var) → HasValues X d xs → length xs ≡ length vars
-    → All Holds (map point_integer (enumerate_from number (zip vars xs))) → AllZip (λ v n. IsWholeIf (is_integer v.kind) d n) vars X
+    → All Holds (map whole_look (enumerate_from number (zip vars xs))) → AllZip (λ v n. IsWholeIf (is_integer v.kind) d n) vars X
 integers_hold [] d [] number [] same long hold = tt
 integers_hold [] d (x ∷ xs) number vars same long hold = absurd same
 integers_hold (n ∷ X) d [] number vars same long hold = absurd same
 integers_hold (n ∷ X) d (x ∷ xs) number [] same long hold = absurd (omega (arith, long))
 integers_hold [] d [] number (v ∷ vars) same long hold = absurd (omega (arith, long))
 integers_hold (n ∷ X) d (x ∷ xs) number (v ∷ vars) same long hold = (
-  integer_holds v n d x same.0 (All-head Holds (point_integer (number, (v, x))) (map point_integer (enumerate_from (number + 1) (zip vars xs))) hold),
-  integers_hold X d xs (number + 1) vars same.1 (omega (arith, long)) (All-tail Holds (point_integer (number, (v, x))) (map point_integer (enumerate_from (number + 1) (zip vars xs))) hold),
+  integer_holds v n d x same.0 (All-head Holds (whole_look (number, (v, x))) (map whole_look (enumerate_from (number + 1) (zip vars xs))) hold),
+  integers_hold X d xs (number + 1) vars same.1 (omega (arith, long)) (All-tail Holds (whole_look (number, (v, x))) (map whole_look (enumerate_from (number + 1) (zip vars xs))) hold),
 )
 
 -- ---- the value
@@ -195,7 +196,7 @@ pub kept_point : (m : Model) (p : Point) → length p.xs ≡ length m.vars → A
 kept_point m p long hold =
     let c = common p.xs in
     let rows = map (point_row p.xs) (enumerate_from 1 m.rows) in
-    let bounds = map point_bound (enumerate_from 1 (zip (effective_bounds m []) p.xs)) in
+    let bounds = map point_bound (enumerate_from 1 (zip m.vars p.xs)) in
     let integers = map point_integer (enumerate_from 1 (zip m.vars p.xs)) in
     let last = point_value m p in
     let three = All-left Holds (rows ++ bounds ++ integers) (last ∷ []) hold in
@@ -204,12 +205,10 @@ kept_point m p long hold =
       X = c.X;
       d = c.d;
       values = c.values;
-      feasible = record {
-        above_zero = c.above_zero;
-        rows = rows_hold c.X c.d p.xs 1 m.rows c.above_zero c.values (All-left Holds rows bounds two);
-        bounds = bounds_hold c.X c.d p.xs 1 (effective_bounds m []) c.above_zero c.values (long ∙ sym (length-bounds_from 0 m.vars [])) (All-right Holds rows bounds two);
-        whole = integers_hold c.X c.d p.xs 1 m.vars c.values long (All-right Holds (rows ++ bounds) integers three);
-      };
+      feasible = feasible_from m c.X c.d c.above_zero (rows_hold c.X c.d p.xs 1 m.rows c.above_zero c.values (All-left Holds rows bounds two))
+          (bounds_hold c.X c.d p.xs 1 (effective_bounds m []) c.above_zero c.values (long ∙ sym (length-bounds_from 0 m.vars []))
+          (subst (All Holds) (bound_looks 0 1 m.vars p.xs) (All-right Holds rows bounds two)))
+          (integers_hold c.X c.d p.xs 1 m.vars c.values long (subst (All Holds) (integer_looks 1 m.vars p.xs) (All-right Holds (rows ++ bounds) integers three)));
       value = same_by (objective_value m c.X c.d) (ratio p.value) (objective_den m c.X c.d c.above_zero) (omega arith)
           (objective_sum m c.X c.d p.xs c.above_zero c.values
           ∙ same_holds (total_of m.constant (objective_steps m p.xs)) p.value (All-head Holds last [] (All-right Holds (rows ++ bounds ++ integers) (last ∷ []) hold)));

@@ -1,6 +1,7 @@
 pub mod ByHand
 pub mod CasePoints
 pub mod CaseTrees
+pub mod Domains
 pub mod FormBounds
 pub mod FormEnds
 pub mod FormLaw

@@ -1,7 +1,7 @@
 -- The points along a ray: they are feasible, and some are better than each whole number.
-use Rattle.std.proofs.Common.{◌≡◌, refl, sym, ◌∙◌, ap, ap₂, subst, subst₂, ⊎_elim, ℕ, zero, suc, ◌+◌, ◌<◌, pos, ◌*ℤ◌, false, IsTrue, ◌&&◌, ◌||◌, not, List, [], ◌∷◌, ◌++◌, map, zip, length, flat_map, Option, Some, None, is_none, All, arith}
-use Rattle.std.specs.List.{enumerate_from, list_any}
-use Rattle.std.proofs.lemmas.Bool.{and_from, and_parts, not_from_false, or_left, or_parts}
+use Rattle.std.proofs.Common.{◌≡◌, refl, sym, ◌∙◌, ap, ap₂, subst, subst₂, ⊎_elim, ℕ, zero, suc, ◌+◌, ◌<◌, pos, ◌*ℤ◌, true, IsTrue, ◌&&◌, ◌||◌, not, List, [], ◌∷◌, ◌++◌, map, zip, length, flat_map, Option, Some, None, is_none, All, arith}
+use Rattle.std.specs.List.{enumerate_from}
+use Rattle.std.proofs.lemmas.Bool.{and_from, and_parts, not_from_false, or_left}
 use Rattle.std.proofs.lemmas.Int.{ints}
 use Rattle.std.proofs.lemmas.List.Elements.{All-append, All-cons, All-head, All-nil, All-tail}
 use Rattle.frac128.specs.Fraction.{Fraction, den, exact_sum, inverse, negation, one_value, zero_value}
@@ -22,10 +22,12 @@ use Rattle.model_data.specs.declared.model.Var.{Var}
 use Rattle.model_data.specs.declared.solution.Point.{Point}
 use Rattle.solve_defs.specs.Bounds.{Bounds, effective_bounds}
 use Rattle.solve_defs.specs.Certificates.{compares, gains, is_above, is_negative_or_zero, is_positive_or_zero, is_under, is_within, keeps_along, objective_steps, point_bound, point_integer, point_row, point_value, ray_bound, ray_gain, ray_looks, ray_row, row_steps, stays_within}
+use Rattle.solve_defs.specs.Kinds.{are_continuous, is_continuous}
 use Rattle.solve_defs.specs.Looks.{Holds, Look, plus_times, total_of}
 use Rattle.solve_defs.specs.Points.{Below, IsBetter, IsFeasiblePoint, IsUnbounded, Ratio, objective_value, quotient, ratio}
-use Rattle.solve_defs.specs.Values.{has_integers, is_at_most, is_whole, value_at}
+use Rattle.solve_defs.specs.Values.{is_at_most, is_whole, value_at}
 use Rattle.solve_defs.specs.declared.verdict.Place.TheVariants.{RayRow}
+use Rattle.solve_defs.proofs.Domains.{bound_looks, continuous_kind, integer_looks, whole_look, within_look}
 use Rattle.solve_defs.proofs.FormBounds.{low_negation}
 use Rattle.solve_defs.proofs.KeptPoints.{from_zero, kept_point, same_by}
 use Rattle.solve_defs.proofs.LeafBounds.{All-left, All-right, objective_den}
@@ -165,30 +167,30 @@ within_along t x r b sign shown =
     under_along (Some u) h k = at_most_shown (x ⊕ t ⊗ r) u (falls t x r u sign (at_most_holds x u h) (at_most_holds r zero_value k))
 
 bounds_along : (t : Fraction) (xs ray : List Fraction) (number : ℕ) (bounds : List Bounds) → IsTrue (is_at_most zero_value t) → length xs ≡ length ray
-    → All Holds (map ray_bound (enumerate_from number (zip bounds (zip xs ray)))) → All Holds (map point_bound (enumerate_from number (zip bounds (along t xs ray))))
+    → All Holds (map ray_bound (enumerate_from number (zip bounds (zip xs ray)))) → All Holds (map within_look (enumerate_from number (zip bounds (along t xs ray))))
 bounds_along t xs ray number [] sign long hold = All-nil Holds
 bounds_along t [] ray number (b ∷ bounds) sign long hold = All-nil Holds
 bounds_along t (x ∷ xs) [] number (b ∷ bounds) sign long hold = absurd (omega (arith, long))
 bounds_along t (x ∷ xs) (r ∷ ray) number (b ∷ bounds) sign long hold =
     let rest = map ray_bound (enumerate_from (number + 1) (zip bounds (zip xs ray))) in
-    All-cons Holds (point_bound (number, (b, x ⊕ t ⊗ r))) (map point_bound (enumerate_from (number + 1) (zip bounds (along t xs ray))))
+    All-cons Holds (within_look (number, (b, x ⊕ t ⊗ r))) (map within_look (enumerate_from (number + 1) (zip bounds (along t xs ray))))
     (within_along t x r b sign (All-head Holds (ray_bound (number, (b, (x, r)))) rest hold))
     (bounds_along t xs ray (number + 1) bounds sign (omega (arith, long)) (All-tail Holds (ray_bound (number, (b, (x, r)))) rest hold))
 
-no_integers : (zs : List Fraction) (number : ℕ) (vars : List Var) → list_any (λ v. is_integer v.kind) vars ≡ false → All Holds (map point_integer (enumerate_from number (zip vars zs)))
-no_integers zs number [] none = All-nil Holds
-no_integers [] number (v ∷ vars) none = All-nil Holds
-no_integers (z ∷ zs) number (v ∷ vars) none =
-    let parts = or_parts (is_integer v.kind) (list_any (λ w. is_integer w.kind) vars) none in
-    All-cons Holds (point_integer (number, (v, z))) (map point_integer (enumerate_from (number + 1) (zip vars zs)))
-    (or_left (not (is_integer v.kind)) (is_whole z) (not_from_false (is_integer v.kind) parts.0))
+no_integers : (zs : List Fraction) (number : ℕ) (vars : List Var) → are_continuous vars ≡ true → All Holds (map whole_look (enumerate_from number (zip vars zs)))
+no_integers zs number [] continuous = All-nil Holds
+no_integers [] number (v ∷ vars) continuous = All-nil Holds
+no_integers (z ∷ zs) number (v ∷ vars) continuous =
+    let parts = and_parts (is_continuous v.kind) (are_continuous vars) continuous in
+    All-cons Holds (whole_look (number, (v, z))) (map whole_look (enumerate_from (number + 1) (zip vars zs)))
+    (or_left (not (is_integer v.kind)) (is_whole z) (not_from_false (is_integer v.kind) (continuous_kind v.kind parts.0)))
     (no_integers zs (number + 1) vars parts.1)
 
 abbrev pub point_along : Model → Fraction → List Fraction → List Fraction → Point
 point_along m t xs ray = record { xs = along t xs ray; value = total_of m.constant (objective_steps m (along t xs ray)) }
 
 -- Each point along the ray is feasible.
-pub along_feasible : (m : Model) (t : Fraction) (xs ray : List Fraction) → IsTrue (is_at_most zero_value t) → length xs ≡ length m.vars → length ray ≡ length m.vars → has_integers m ≡ false
+pub along_feasible : (m : Model) (t : Fraction) (xs ray : List Fraction) → IsTrue (is_at_most zero_value t) → length xs ≡ length m.vars → length ray ≡ length m.vars → are_continuous m.vars ≡ true
     → All Holds (ray_looks m xs ray) → IsFeasiblePoint m (point_along m t xs ray)
 along_feasible m t xs ray sign long ray_long continuous hold =
     let same = long ∙ sym ray_long in
@@ -197,7 +199,7 @@ along_feasible m t xs ray sign long ray_long continuous hold =
     let bounds = map ray_bound (enumerate_from 1 (zip (effective_bounds m []) (zip xs ray))) in
     let front = All-left Holds (rows ++ bounds) (ray_gain m ray ∷ []) hold in
     let new_rows = map (point_row zs) (enumerate_from 1 m.rows) in
-    let new_bounds = map point_bound (enumerate_from 1 (zip (effective_bounds m []) zs)) in
+    let new_bounds = map point_bound (enumerate_from 1 (zip m.vars zs)) in
     let new_integers = map point_integer (enumerate_from 1 (zip m.vars zs)) in
     let last = point_value m (point_along m t xs ray) in
     kept_point m (point_along m t xs ray) (length-along t xs ray same ∙ long)
@@ -205,8 +207,8 @@ along_feasible m t xs ray sign long ray_long continuous hold =
     (All-append Holds (new_rows ++ new_bounds) new_integers
     (All-append Holds new_rows new_bounds
     (rows_along t xs ray 1 m.rows sign same (All-left Holds rows bounds front))
-    (bounds_along t xs ray 1 (effective_bounds m []) sign same (All-right Holds rows bounds front)))
-    (no_integers zs 1 m.vars continuous))
+    (subst (All Holds) (sym (bound_looks 0 1 m.vars zs)) (bounds_along t xs ray 1 (effective_bounds m []) sign same (All-right Holds rows bounds front))))
+    (subst (All Holds) (sym (integer_looks 1 m.vars zs)) (no_integers zs 1 m.vars continuous)))
     (All-cons Holds last [] (same_shown (total_of m.constant (objective_steps m zs)) (total_of m.constant (objective_steps m zs)) refl) (All-nil Holds)))
 
 -- ---- far along
@@ -330,7 +332,7 @@ better_far Minimize a y r gain =
     }
 
 -- A ray shows that no number bounds the objective.
-pub ray_unbounded : (m : Model) (xs ray : List Fraction) → length xs ≡ length m.vars → length ray ≡ length m.vars → has_integers m ≡ false → All Holds (ray_looks m xs ray) → IsUnbounded m
+pub ray_unbounded : (m : Model) (xs ray : List Fraction) → length xs ≡ length m.vars → length ray ≡ length m.vars → are_continuous m.vars ≡ true → All Holds (ray_looks m xs ray) → IsUnbounded m
 ray_unbounded m xs ray long ray_long continuous hold n =
     let rows = flat_map (ray_row xs ray) (enumerate_from 1 m.rows) in
     let bounds = map ray_bound (enumerate_from 1 (zip (effective_bounds m []) (zip xs ray))) in

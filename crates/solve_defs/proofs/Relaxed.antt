@@ -12,6 +12,7 @@ use Rattle.solve_defs.specs.Bounds.{Bounds, bounds_from, effective_bounds, great
 use Rattle.solve_defs.specs.Certificates.{nth}
 use Rattle.solve_defs.specs.Points.{IsFeasible, IsWithin, quotient, relaxation, relaxed_vars}
 use Rattle.solve_defs.specs.declared.cut.Cut.{Cut}
+use Rattle.solve_defs.proofs.Domains.{feasible_within}
 
 -- ---- the relaxation
 
@@ -84,7 +85,7 @@ within_at (b ∷ bounds) (n ∷ X) d (suc v) each = further (slice_get bounds v)
 -- ---- feasible points
 
 bounds_of_point : (m : Model) (cuts : List Cut) (X : List ℤ) (d : ℕ) → IsFeasible (relaxation m cuts) X d → AllZip (λ b n. IsWithin b (quotient n d)) (effective_bounds m cuts) X
-bounds_of_point m cuts X d feasible = subst (λ bounds. AllZip (λ b n. IsWithin b (quotient n d)) bounds X) (effective_bounds-relaxation m cuts) feasible.bounds
+bounds_of_point m cuts X d feasible = subst (λ bounds. AllZip (λ b n. IsWithin b (quotient n d)) bounds X) (effective_bounds-relaxation m cuts) (feasible_within (relaxation m cuts) X d feasible)
 
 pub point_within : (m : Model) (cuts : List Cut) (X : List ℤ) (d v : ℕ) → IsFeasible (relaxation m cuts) X d
     → IfSome (slice_get (effective_bounds m cuts) v) (IsWithinAt (length m.vars) X d v)

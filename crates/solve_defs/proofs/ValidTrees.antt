@@ -1,5 +1,5 @@
 -- What a valid tree proves of the model.
-use Rattle.std.proofs.Common.{◌≡◌, refl, sym, ◌∙◌, subst, ℕ, ◌==◌, ℤ, Bool, false, true≢false, IsTrue, ◌&&◌, ◌||◌, not, ⊎_elim, List, [], ◌∷◌, ◌++◌, length, is_some, is_none, All, ◌⊎◌, inl, inr, arith}
+use Rattle.std.proofs.Common.{◌≡◌, refl, sym, ◌∙◌, subst, ℕ, ◌==◌, ℤ, Bool, true, false, true≢false, IsTrue, ◌&&◌, ◌||◌, not, ⊎_elim, List, [], ◌∷◌, ◌++◌, length, is_some, is_none, All, ◌⊎◌, inl, inr, arith}
 use Rattle.std.specs.List.{AllByRecursion, list_all, list_any}
 use Rattle.std.proofs.lemmas.Bool.{eqb-true, and_parts, not-true, or_cases, or_parts}
 use Rattle.std.proofs.lemmas.List.Elements.{All-head, All-nil, All-tail}
@@ -12,9 +12,9 @@ use Rattle.model_data.specs.declared.solution.CertNode.{CertNode}
 use Rattle.model_data.specs.declared.solution.Outcome.{Outcome}
 use Rattle.solve_defs.specs.Cases.{IsWithinCut}
 use Rattle.solve_defs.specs.Certificates.{IsValid, are_whole, certificate_looks, has_shape, is_bound, is_certificate_for, is_node_for, is_point_for, look_at, point_looks, tree_looks, under, value_of}
+use Rattle.solve_defs.specs.Kinds.{are_continuous}
 use Rattle.solve_defs.specs.Looks.{Holds}
 use Rattle.solve_defs.specs.Points.{HasNoPoint, IsBetter, IsFeasible, objective_value, ratio}
-use Rattle.solve_defs.specs.Values.{has_integers}
 use Rattle.solve_defs.specs.declared.status.TheConstants.{INFEASIBLE, OPTIMAL, UNBOUNDED}
 use Rattle.solve_defs.specs.declared.verdict.Place.TheVariants.{Shape}
 use Rattle.solve_defs.proofs.CaseTrees.{BoundGives, Node, tree_meets}
@@ -54,21 +54,21 @@ needs_nothing s = not (s == OPTIMAL || (s == INFEASIBLE || s == UNBOUNDED))
 
 pub record RayShape (m : Model) (o : Outcome) (point ray : List Fraction) : Type 0 where
   pub status : IsTrue (o.status == UNBOUNDED)
-  pub continuous : has_integers m ≡ false
+  pub continuous : are_continuous m.vars ≡ true
   pub long : length point ≡ length m.vars
   pub ray_long : length ray ≡ length m.vars
 
 pub ray_shape : (m : Model) (o : Outcome) (point ray : List Fraction) → IsValid m o (Ray point ray) → RayShape m o point ray
 ray_shape m o point ray valid =
     let front = o.status == UNBOUNDED && is_none o.point in
-    let continuous = not (has_integers m) in
+    let continuous = are_continuous m.vars in
     let long = length point == length m.vars in
     let four = and_parts (front && continuous && long) (length ray == length m.vars) (certificate_fits m o (Ray point ray) valid) in
     let three = and_parts (front && continuous) long four.0 in
     let two = and_parts front continuous three.0 in
     record {
       status = (and_parts (o.status == UNBOUNDED) (is_none o.point) two.0).0;
-      continuous = not-true (has_integers m) two.1;
+      continuous = two.1;
       long = eqb-true (length point) (length m.vars) three.1;
       ray_long = eqb-true (length ray) (length m.vars) four.1;
     }

@@ -22,8 +22,9 @@ use Rattle.model_data.specs.declared.solution.Point.{Point}
 use Rattle.model_data.specs.declared.solution.Weight.{Weight}
 use Rattle.model_data.specs.declared.solution.Weights.{Weights}
 use Rattle.solve_defs.specs.Bounds.{Bounds, at_least_cut, at_most_cut, effective_bounds}
+use Rattle.solve_defs.specs.Kinds.{Domain, are_continuous, domain}
 use Rattle.solve_defs.specs.Looks.{Holds, Look, Step, minus, minus_times, plus, plus_times, verdict_of}
-use Rattle.solve_defs.specs.Values.{has_integers, is_at_most, is_below, is_same, is_whole, term_of, turned, value_at, whole}
+use Rattle.solve_defs.specs.Values.{is_at_most, is_below, is_same, is_whole, term_of, turned, value_at, whole}
 use Rattle.solve_defs.specs.declared.cut.Cut.{Cut}
 use Rattle.solve_defs.specs.declared.status.TheConstants.{INFEASIBLE, OPTIMAL, UNBOUNDED}
 use Rattle.solve_defs.specs.declared.verdict.Place.{Place}
@@ -75,7 +76,7 @@ is_node_for m (Farkas weights) = are_weights_for m weights
 abbrev pub is_certificate_for : Model → Outcome → Cert → Bool
 is_certificate_for m o Nothing = not (o.status == OPTIMAL || (o.status == INFEASIBLE || o.status == UNBOUNDED))
 is_certificate_for m o (Ray point ray) =
-    o.status == UNBOUNDED && is_none o.point && not (has_integers m)
+    o.status == UNBOUNDED && is_none o.point && are_continuous m.vars
     && (length point == length m.vars) && (length ray == length m.vars)
 is_certificate_for m o (Tree nodes) =
     are_whole 1 nodes && list_all (is_node_for m) nodes
@@ -120,16 +121,24 @@ is_under (Some upper) x = is_at_most x upper
 abbrev pub is_within : Bounds → Fraction → Bool
 is_within bounds x = is_above bounds.lower x && is_under bounds.upper x
 
+-- x stands in one of the domain's ranges
+abbrev pub is_in_range : Domain → Fraction → Bool
+is_in_range domain x = list_any (λ bounds. is_within bounds x) domain.ranges
+
+-- x is whole where the domain asks for that
+abbrev pub is_whole_if_asked : Domain → Fraction → Bool
+is_whole_if_asked domain x = not domain.whole || is_whole x
+
 -- ---- a point
 
 abbrev pub point_row : List Fraction → ℕ × Row → Look
 point_row xs (number, row) = record { place = PointRow number; start = zero_value; steps = row_steps row.terms xs; holds = λ sum. compares row.sense sum row.rhs }
 
-abbrev pub point_bound : ℕ × (Bounds × Fraction) → Look
-point_bound (number, p) = look_at (PointBound number) (is_within p.0 p.1)
+abbrev pub point_bound : ℕ × (Var × Fraction) → Look
+point_bound (number, p) = look_at (PointBound number) (is_in_range (domain p.0) p.1)
 
 abbrev pub point_integer : ℕ × (Var × Fraction) → Look
-point_integer (number, p) = look_at (PointInteger number) (not (is_integer p.0.kind) || is_whole p.1)
+point_integer (number, p) = look_at (PointInteger number) (is_whole_if_asked (domain p.0) p.1)
 
 abbrev pub point_value : Model → Point → Look
 point_value m point = record { place = PointValue; start = m.constant; steps = objective_steps m point.xs; holds = λ sum. is_same sum point.value }
@@ -139,7 +148,7 @@ abbrev pub point_looks : Model → Option Point → List Look
 point_looks m None = []
 point_looks m (Some point) =
     map (point_row point.xs) (enumerate_from 1 m.rows)
-    ++ map point_bound (enumerate_from 1 (zip (effective_bounds m []) point.xs))
+    ++ map point_bound (enumerate_from 1 (zip m.vars point.xs))
     ++ map point_integer (enumerate_from 1 (zip m.vars point.xs))
     ++ point_value m point ∷ []
 

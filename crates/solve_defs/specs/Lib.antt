@@ -5,6 +5,8 @@ pub mod Certificates
 pub mod Columns
 pub mod Ends
 pub mod ExactRelaxation
+pub mod KeptCuts
+pub mod Kinds
 pub mod LeafWeights
 pub mod Looks
 pub mod Nodes

@@ -22,9 +22,10 @@ use Rattle.dictionary.specs.Dictionary.{Dictionary, entry, opening}
 use Rattle.dictionary.specs.declared.standard.Std.{Std}
 use Rattle.solve_defs.specs.Bounds.{at_least_cut, at_most_cut}
 use Rattle.solve_defs.specs.Ends.{dual_of, farkas_of, point_of, ray_of}
+use Rattle.solve_defs.specs.Kinds.{are_continuous}
 use Rattle.solve_defs.specs.Path.{Coming, Entering, a_pivot, an_end, coming, entry_count, next}
 use Rattle.solve_defs.specs.StandardForm.{point_back, ray_back, shapes_of, standard_form, weights_back}
-use Rattle.solve_defs.specs.Values.{floor_of, has_integers, is_better, is_whole, turned, whole}
+use Rattle.solve_defs.specs.Values.{floor_of, is_better, is_whole, turned, whole}
 use Rattle.solve_defs.specs.declared.cut.Cut.{Cut}
 use Rattle.solve_defs.specs.declared.solving.Events.{Events}
 use Rattle.solve_defs.specs.declared.solving.LpEnd.TheVariants.{Best, NoPoint, Unbounded}
@@ -124,12 +125,12 @@ pivot_turn p s node entering =
 
 -- ---- a finished node
 
--- Finished nodes are told of models with integer variables alone.
+-- Of models that aren't continuous finished nodes are told.
 abbrev pub node_event : Model → Search → Option NodeEvent
-node_event m s = if has_integers m then Some record { nodes = s.nodes; pivots = s.pivots } else None
+node_event m s = if are_continuous m.vars then None else Some record { nodes = s.nodes; pivots = s.pivots }
 
 abbrev pub sol_event : Model → Search → Fraction → Option SolEvent
-sol_event m s value = if has_integers m then Some record { value = value; nodes = s.nodes; pivots = s.pivots } else None
+sol_event m s value = if are_continuous m.vars then None else Some record { value = value; nodes = s.nodes; pivots = s.pivots }
 
 -- one node more, which the tree has so, with these to begin next
 abbrev pub with_finished : Search → CertNode → List (List Cut) → Search
@@ -160,15 +161,15 @@ abbrev pub ray_turn : Search → Result (List Fraction × List Fraction) Wide �
 ray_turn s (Err wide) = silent (refused s.pivots wide s)
 ray_turn s (Ok both) = silent (over (outcome UNBOUNDED (with_node s) None None) (Ray both.0 both.1))
 
--- Where some variable is integer nothing is claimed, and nothing carried back.
+-- Where some variable isn't continuous nothing is claimed, and nothing carried back.
 abbrev pub unbounded_turn : Model → Search → Node → Turn
 unbounded_turn m s node =
-    if has_integers m
-    then record {
+    if are_continuous m.vars
+    then ray_turn s (both_back m node)
+    else record {
       events = record no_events { node = node_event m (with_node s) };
       progress = over (outcome INF_OR_UNBD (with_node s) None None) Nothing;
     }
-    else ray_turn s (both_back m node)
 
 -- ---- a relaxation at its best point
 

@@ -4,9 +4,8 @@
 -- are compared by cross products.
 use Rattle.std.specs.Prelude.{◌≡◌, ℕ, ◌*◌, ◌<◌, Bool, IsTrue, List, [], ◌∷◌, map, zip, slice_index_or, All, IfSome, ℤ, pos, ◌+ℤ◌, ◌*ℤ◌, ◌≤ℤ◌, ◌<ℤ◌, unsigned_abs}
 use Rattle.std.specs.Int.{◌∣◌}
-use Rattle.std.specs.List.{AllZip}
+use Rattle.std.specs.List.{AllZip, Any}
 use Rattle.frac128.specs.Fraction.{Fraction, den}
-use Rattle.model_data.specs.Size.{is_integer}
 use Rattle.model_data.specs.declared.model.Direction.{Direction}
 use Rattle.model_data.specs.declared.model.Direction.TheVariants.{Minimize, Maximize}
 use Rattle.model_data.specs.declared.model.Model.{Model}
@@ -17,6 +16,7 @@ use Rattle.model_data.specs.declared.model.Var.{Var}
 use Rattle.model_data.specs.declared.model.VarKind.TheVariants.{Continuous}
 use Rattle.model_data.specs.declared.solution.Point.{Point}
 use Rattle.solve_defs.specs.Bounds.{Bounds, effective_bounds}
+use Rattle.solve_defs.specs.Kinds.{Domain, domain}
 use Rattle.solve_defs.specs.declared.cut.Cut.{Cut}
 
 -- ---- quotients of whole numbers
@@ -85,12 +85,16 @@ pub record IsWithin (bounds : Bounds) (x : Ratio) : Type 0 where
 abbrev pub IsWholeIf : Bool → ℕ → ℤ → Type 0
 IsWholeIf whole d n = IsTrue whole → d ∣ unsigned_abs n
 
--- X / d is a point at which each row and each bound holds, and which is whole for each integer or binary variable.
+-- n / d is a value of the domain
+pub record IsIn (domain : Domain) (n : ℤ) (d : ℕ) : Type 0 where
+  pub range : Any (λ bounds. IsWithin bounds (quotient n d)) domain.ranges
+  pub whole : IsWholeIf domain.whole d n
+
+-- X / d is a point at which each row holds, and which has a value that each variable allows.
 pub record IsFeasible (m : Model) (X : List ℤ) (d : ℕ) : Type 0 where
   pub above_zero : 0 < d
   pub rows : All (KeepsRow X d) m.rows
-  pub bounds : AllZip (λ b n. IsWithin b (quotient n d)) (effective_bounds m []) X
-  pub whole : AllZip (λ v n. IsWholeIf (is_integer v.kind) d n) m.vars X
+  pub vars : AllZip (λ v n. IsIn (domain v) n d) m.vars X
 
 -- ---- best points
 

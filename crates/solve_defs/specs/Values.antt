@@ -1,13 +1,10 @@
 -- Fractions compared by value, whole numbers among them, and what a model has of a variable.
 use Rattle.std.specs.Prelude.{ℕ, ◌/◌, ◌==◌, Bool, List, [], ◌∷◌, slice_index_or, Option, Some, None, unwrap_or, ℤ, pos, negsuc, if◌then◌else◌}
-use Rattle.std.specs.List.{list_any}
 use Rattle.std.specs.Ordering.{int_eq, is_eq, is_le, is_lt}
 use Rattle.frac128.specs.Fraction.{Fraction, den, negation, zero_value}
 use Rattle.frac128.specs.Order.{order_of}
-use Rattle.model_data.specs.Size.{is_integer}
 use Rattle.model_data.specs.declared.model.Direction.{Direction}
 use Rattle.model_data.specs.declared.model.Direction.TheVariants.{Minimize, Maximize}
-use Rattle.model_data.specs.declared.model.Model.{Model}
 use Rattle.model_data.specs.declared.model.Term.{Term}
 
 abbrev pub is_at_most : Fraction → Fraction → Bool
@@ -50,10 +47,6 @@ is_better Maximize x y = is_below y x
 
 abbrev pub value_at : List Fraction → ℕ → Fraction
 value_at xs place = slice_index_or xs place zero_value
-
--- some variable takes whole numbers alone
-abbrev pub has_integers : Model → Bool
-has_integers m = list_any (λ v. is_integer v.kind) m.vars
 
 -- the coefficient of the variable of this place, where the row has a term of it
 abbrev pub term_of : List Term → ℕ → Option Fraction

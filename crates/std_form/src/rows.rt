@@ -1,7 +1,7 @@
 //! The rows of a standard form.
 ghost use Rattle.std.specs.Prelude.{◌≡◌, ◌+◌, ◌≤◌, IfOk, map};
 ghost use Rattle.frac128.specs.Fraction.{negation};
-ghost use Rattle.solve_defs.specs.StandardForm.{column_count, less_offset, negated, row_entries, rows_of, side_less, span_row, span_rows, width};
+ghost use Rattle.solve_defs.specs.StandardForm.{column_count, less_offset, row_entries, rows_of, side_less, span_row, span_rows, width};
 ghost use Rattle.std_form.specs.Outcome.{Meets, behind};
 ghost use Rattle.std_form.specs.Shapes.{shape_of};
 
@@ -25,18 +25,17 @@ impl Columns {
         ensures { Meets result (λ _. rows.new.items) (behind rows.old.items (rows_of self.now row.now)) }
     {
         let rhs = self.side(row).map_err(StdFault::Wide)?;
-        let coefs = self.coefs(alloc, row.terms.as_slice())?;
-        let own = StdRow {
-            coefs: Seq::of(coefs),
-            rhs,
-        };
+        let mut coefs = self.coefs(alloc, row.terms.as_slice())?;
         match row.sense {
-            Sense::Less => rows.push(own)?,
-            Sense::Greater => rows.push(negated(alloc, &own)?)?,
+            Sense::Less => rows.push(at_most(coefs, rhs))?,
+            Sense::Greater => {
+                negate(coefs.as_mut_slice());
+                rows.push(at_most(coefs, rhs.neg()))?;
+            }
             Sense::Equal => {
-                let opposite = negated(alloc, &own)?;
-                rows.push(own)?;
-                rows.push(opposite)?;
+                let opposite = negations(alloc, coefs.as_slice())?;
+                rows.push(at_most(coefs, rhs))?;
+                rows.push(at_most(opposite, rhs.neg()))?;
             }
         }
         Ok(())
@@ -96,10 +95,7 @@ impl Columns {
             let span = upper.checked_sub(&lower).map_err(StdFault::Wide)?;
             let mut coefs = self.zeros(alloc)?;
             coefs[placed.column] = Frac::one();
-            rows.push(StdRow {
-                coefs: Seq::of(coefs),
-                rhs: span,
-            })?;
+            rows.push(at_most(coefs, span))?;
         }
         Ok(())
     }
@@ -115,14 +111,23 @@ fn less_offset(side: &Frac, coef: &Frac, offset: &Option<Frac>) -> Result<Frac, 
     }
 }
 
-/// The row times -1.
-fn negated(alloc: Global, row: &StdRow) -> Result<StdRow, NoMemory>
-    ensures { IfOk result (λ opposite. opposite ≡ negated row.now) }
+fn at_most(coefs: Vec<Frac>, rhs: Frac) -> StdRow
+    ensures coefs { result.coefs ≡ coefs.items }
+    ensures rhs { result.rhs ≡ rhs }
 {
-    Ok(StdRow {
-        coefs: Seq::of(negations(alloc, row.coefs.as_slice())?),
-        rhs: row.rhs.neg(),
-    })
+    StdRow {
+        coefs: Seq::of(coefs),
+        rhs,
+    }
+}
+
+/// Each value times -1, in its place.
+fn negate(values: &mut [Frac])
+    ensures { values.new ≡ map negation values.old }
+{
+    for value in values.iter_mut() {
+        *value = value.neg();
+    }
 }
 
 fn negations(alloc: Global, values: &[Frac]) -> Result<Vec<Frac>, NoMemory>

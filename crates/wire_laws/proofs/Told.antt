@@ -15,7 +15,7 @@ use Rattle.frac128.specs.Numbers.{is_below_zero, limit}
 use Rattle.frac_text.specs.Reading.{reading}
 use Rattle.frac_text.specs.declared.fault.NumFault.{NumFault}
 use Rattle.frac_text.specs.declared.fault.NumFault.TheVariants.{NotNumber, TooWide}
-use Rattle.lp_defs.proofs.SoundNumbers.{reading_kept}
+use Rattle.frac_text.proofs.Kept.{reading_kept}
 use Rattle.model_data.specs.Names.{IsName, is_name, is_tag}
 use Rattle.wire_laws.specs.Written.{HasWord, IsFiniteBound, is_one_word}
 use Rattle.wire_text.specs.Kinds.{Bound, Kind, Value, batch, bound_of, bound_told, comparison, finite, infinite, is_far, kind, lower, name, number, number_told, or_line, parameter, size, tag, told, upper, whole, whole_told}
