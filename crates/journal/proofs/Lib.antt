@@ -1,6 +1,6 @@
 mod Beginning
 pub mod Holding
-mod Mending
+mod FileEnds
 mod Planning
 pub mod Reading
 mod Standing

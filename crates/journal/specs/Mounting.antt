@@ -4,7 +4,9 @@ use Rattle.disk_model.specs.Calls.{DiskCall}
 use Rattle.disk_model.specs.Disk.{overwritten}
 use Rattle.journal.specs.declared.fault.MountFault.{MountFault}
 use Rattle.journal.specs.declared.fault.MountFault.TheVariants.{DiskFailed, NotAJournal, NoMemory}
-use Rattle.journal.specs.Plans.{Step, RanOn, RanPart}
+use Rattle.disk_model.specs.declared.answer.DiskLen.{DiskLen}
+use Rattle.disk_model.specs.declared.answer.DiskLen.TheVariants.{Len, Failed}
+use Rattle.journal.specs.Plans.{Step, RanOn, RanPart, measure_plan}
 use Rattle.journal.specs.Records.{AtGate, bodies_from, records, header, front, opened, end_of, AreShort, IsBegun}
 
 -- a file with this content may be opened
@@ -66,13 +68,36 @@ RanUpTo (Some NoMemory) plan old new = RanPart plan old new
 abbrev pub RanForFile : (List ℕ → List Step) → Option MountFault → (seen : Option (List ℕ)) → Option (List DiskCall) → Option (List DiskCall) → Type 0
 RanForFile plan fault seen old new = (file : List ℕ) × IsTold seen file × RanUpTo fault (plan file) old new
 
+-- it asked for the length, or failed at that or before
+abbrev pub RanToLength : DiskLen → Option (List DiskCall) → Option (List DiskCall) → Type 0
+RanToLength (Len len) old new = RanOn (measure_plan len) old new true
+RanToLength Failed old new = (len : ℕ) → RanOn (measure_plan len) old new false
+
 -- ---- how a file is read
+
+-- where a length was answered, a crash leaves what a read gives
+abbrev pub SyncedTo : DiskLen → Option (List ℕ) → (List ℕ → Type 0) → Type 0
+SyncedTo (Len len) seen left = (image : List ℕ) → left image → IsTold seen image
+SyncedTo Failed seen left = Unit {0}
 
 -- These bytes are records of these bodies, which are all that is read there.
 abbrev pub IsEnd : List (List ℕ) → List ℕ → Type 0
 IsEnd bodies bytes = (rest : List ℕ) × (bytes ≡ opened bodies ++ rest) × (bodies_from AtGate bytes ≡ bodies) × AreShort bodies
 
+-- A file was read up to its end.
+pub record IsScanned (file : List ℕ) (end : ℕ) : Type 0 where
+  pub at : end ≡ end_of file
+  pub short : AreShort (records file)
+  pub rest : List ℕ
+  pub split : file ≡ front (records file) ++ rest
+
 -- what a read of a whole file found: none for at most 8 bytes, or its bytes
 abbrev pub IsFound : Option (List ℕ) → List ℕ → Type 0
 IsFound None file = length file ≤ 8
 IsFound (Some bytes) file = (bytes ≡ file) × (8 < length file)
+
+-- a fault before the bytes are looked at
+abbrev pub IsReadFault : MountFault → Type 0
+IsReadFault (NotAJournal head) = ⊥
+IsReadFault DiskFailed = Unit {0}
+IsReadFault NoMemory = Unit {0}

@@ -81,8 +81,15 @@ is_closed file = get_or file (end_of file) 1 == 0
 abbrev pub has_header : List ℕ → Bool
 has_header file = bytes_eq (take 8 file) header
 
-abbrev pub read_plan : List ℕ → List Step
-read_plan file = SyncStep ∷ LenStep (length file) ∷ (if nat_lt 8 (length file) then ReadStep 0 (length file) ∷ [] else [])
+-- of a file of this length
+abbrev pub measure_plan : ℕ → List Step
+measure_plan len = SyncStep ∷ LenStep len ∷ []
+
+abbrev pub whole_plan : ℕ → List Step
+whole_plan len = ReadStep 0 len ∷ []
+
+abbrev pub read_plan : ℕ → List Step
+read_plan len = measure_plan len ++ (if nat_lt 8 len then whole_plan len else [])
 
 abbrev pub begin_plan : List Step
 begin_plan = through 0 header ++ through 8 (0 ∷ [])
@@ -95,4 +102,4 @@ abbrev pub write_plan : List ℕ → List Step
 write_plan file = if nat_lt 8 (length file) then (if has_header file then mend_plan file else []) else begin_plan
 
 abbrev pub mount_plan : List ℕ → List Step
-mount_plan file = read_plan file ++ write_plan file
+mount_plan file = read_plan (length file) ++ write_plan file

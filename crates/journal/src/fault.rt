@@ -1,7 +1,7 @@
 //! Why a call of the journal was refused.
 
 use base_names::NoMemory;
-use std::alloc::{AllocError, AllocFailed};
+use std::alloc::AllocError;
 
 /// Why a file wasn't opened.
 #[derive(Clone, Copy, Debug, PartialEq, Eq)]
@@ -23,13 +23,13 @@ impl From<AllocError> for MountFault {
     }
 }
 
-impl<T: Drop> From<AllocFailed<T>> for MountFault {
+impl From<NoMemory> for MountFault {
     ghost use Rattle.std.specs.Prelude.{◌≡◌};
-    ghost use Rattle.journal.specs.declared.fault.MountFault.TheVariants.{NoMemory};
+    ghost use Rattle.journal.specs.declared.fault.MountFault.TheVariants.{NoMemory as no_memory};
 
-    ghost from_gives = { λ _ fault. fault ≡ NoMemory };
+    ghost from_gives = { λ _ fault. fault ≡ no_memory };
 
-    fn from(_failed: AllocFailed<T>) -> MountFault {
+    fn from(_error: NoMemory) -> MountFault {
         MountFault::NoMemory
     }
 }

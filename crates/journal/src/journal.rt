@@ -33,6 +33,7 @@ pub struct Journal<D: Disk> {
 pub struct JournalRoom;
 
 impl<D: Disk> Journal<D> {
+    ghost use Rattle.std.specs.Prelude.{vec_capacity};
     ghost use Rattle.journal.specs.Plans.{RanOn, settle_plan};
     ghost use Rattle.journal.specs.Standing.{Stands, bodies_of, doubt_of, Holds};
 
@@ -61,5 +62,36 @@ impl<D: Disk> Journal<D> {
         }
         self.doubt = None;
         Ok(())
+    }
+
+    /// Makes the buffer for a body of so many bytes, which stays.
+    pub fn reserve(&mut self, alloc: Global, bytes: u32) -> Result<JournalRoom, NoMemory>
+        requires { Stands D.moment D.left self.old }
+        ensures stands { Stands D.moment D.left self.new }
+        ensures room { OnOk result (bytes + 5 ≤ self.new.reserved) }
+        ensures more { self.old.reserved ≤ self.new.reserved }
+        ensures err { OnErr result (self.new ≡ self.old) }
+        ensures rest { (self.new.disk ≡ self.old.disk) × (self.new.end ≡ self.old.end) × (self.new.limit ≡ self.old.limit) × (self.new.doubt ≡ self.old.doubt) × (self.new.found ≡ self.old.found) × (self.new.added ≡ self.old.added) }
+    {
+        let wanted = u64::from(bytes) + 5;
+        if self.reserved < wanted {
+            self.room = Vec::with_capacity(alloc, wanted as usize)?;
+            self.reserved = wanted;
+        }
+        Ok(JournalRoom)
+    }
+
+    /// The place of the gate behind the bodies.
+    pub fn end(&self) -> u64
+        ensures { result ≡ self.now.end }
+    {
+        self.end
+    }
+
+    /// How often a call of the disk has failed.
+    pub fn faults(&self) -> u64
+        ensures { result ≡ D.faults self.now.disk }
+    {
+        D::fault_count(&self.disk)
     }
 }

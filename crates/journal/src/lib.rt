@@ -4,11 +4,16 @@
 mod append;
 mod fault;
 mod journal;
+mod mending;
+mod mounting;
+mod opening;
 mod put;
+mod reading_back;
 mod scanning;
 mod spelling;
 
 pub use fault::{AppendFault, MountFault};
 pub use journal::{Journal, JournalRoom};
+pub use mounting::Unmounted;
+pub use opening::open_file;
 pub use put::write_through;
-pub use scanning::scan;
