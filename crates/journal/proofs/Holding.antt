@@ -1,16 +1,16 @@
 -- What an image is read as, and what a mounting that is cut short makes of it.
-use Rattle.std.proofs.Common.{◌≡◌, ◌⊎◌, inl, inr, ℕ, ◌^◌, ◌≤◌, ◌<◌, List, [], ◌∷◌, ◌++◌, length, take, drop, Option, None, Some, IfSome, refl, sym, ◌∙◌, ap, subst, arith, append_assoc, length-append}
+use Rattle.std.proofs.Common.{◌≡◌, ◌⊎◌, inl, inr, ℕ, ◌+◌, ◌^◌, ◌≤◌, ◌<◌, List, [], ◌∷◌, ◌++◌, length, take, drop, Option, None, Some, IfSome, refl, sym, ◌∙◌, ap, subst, arith, append_assoc, length-append}
 use Rattle.std.specs.Option.{IsSomeAnd}
 use Rattle.std.proofs.lemmas.Bool.{cases_eq}
-use Rattle.std.proofs.lemmas.List.{append_cancel_left}
-use Rattle.disk_model.specs.Moments.{LeavesOnly}
-use Rattle.disk_model.proofs.Moments.{weaker}
-use Rattle.journal.specs.Records.{record_of, records, header, front, opened, AreShort, IsBegun, IsClosed, IsDoubtful}
-use Rattle.journal.specs.Mounting.{HasHeader, IsUnclosed, IsMended, Mends, WhileMounting}
-use Rattle.journal.specs.Standing.{Holds}
+use Rattle.std.proofs.lemmas.List.{append_cancel_left, drop-drop, drop_at, take_at}
+use Rattle.journal.specs.Records.{record_of, records, header, front, end_of, opened, AreShort, IsBegun, IsClosed, IsDoubtful}
+use Rattle.journal.specs.Mounting.{HasHeader, IsUnclosed, IsMended, Mends, WhileMounting, with_open_gate}
+use Rattle.journal.specs.Standing.{Holds, Stands, WhileAdding, bodies_of, doubt_of}
+use Rattle.journal.specs.declared.journal.Journal.{Journal}
 use Rattle.journal.proofs.Reading.{records_closed, records_doubtful, records_shut}
 use Rattle.journal.proofs.Tearing.{front_more}
-use Rattle.journal.proofs.Standing.{short_more}
+use Rattle.journal.proofs.Standing.{short_more, stands_as}
+use Rattle.journal.proofs.Steps.{now_holds}
 use Rattle.journal.proofs.Beginning.{few_records}
 
 begun_records : (bodies : List (List ℕ)) (image : List ℕ) → IsBegun bodies image → records image ≡ bodies
@@ -104,11 +104,6 @@ mends_holds bodies doubt file image h (inr (inr m)) = record { short = h.short; 
     forms doubt small (inr (inl closed)) = absurd (no_closed bodies file image h.short closed m)
     forms doubt small (inr (inr doubtful)) = inr (inr (doubts doubt small doubtful))
 
--- Where each image at first holds them, so does each one at any moment of a mounting.
-pub mounting_holds : {D : Type 0} (moment : D → ℕ) (left : D → ℕ → List ℕ → Type 0) (old new : D) (bodies : List (List ℕ)) (doubt : Option (List ℕ))
-    → ((image : List ℕ) → left old (moment old) image → Holds bodies doubt image) → LeavesOnly moment left old new (WhileMounting (left old (moment old))) → LeavesOnly moment left old new (Holds bodies doubt)
-mounting_holds moment left old new bodies doubt all run = weaker moment left old new _ _ (λ image w. mends_holds bodies doubt w.0 image (all w.0 w.1) w.2) run
-
 -- It may be opened.
 pub holds_header : (bodies : List (List ℕ)) (doubt : Option (List ℕ)) (image : List ℕ) → Holds bodies doubt image → HasHeader image
 holds_header bodies doubt image h more = by_form h.form
@@ -128,3 +123,35 @@ holds_header bodies doubt image h more = by_form h.form
     by_form (inl begun) = by_begun begun.1
     by_form (inr (inl closed)) = by_front (0 ∷ closed.0) closed.1
     by_form (inr (inr doubtful)) = by_doubt doubt doubtful
+
+-- ---- in the words of records
+
+-- while a body is added
+pub adding_records : (bodies : List (List ℕ)) (doubt : Option (List ℕ)) (body image : List ℕ) → WhileAdding bodies doubt body image → (records image ≡ bodies) ⊎ (IsSomeAnd doubt (λ d. records image ≡ bodies ++ d ∷ []) ⊎ (records image ≡ bodies ++ body ∷ []))
+adding_records bodies doubt body image (inl before) = elim (holds_records bodies doubt image before) [ inl as_is ↦ inl as_is | inr longer ↦ inr (inl longer) ]
+adding_records bodies doubt body image (inr new) = elim (holds_records bodies (Some body) image new) [ inl as_is ↦ inl as_is | inr longer ↦ inr (inr longer) ]
+
+-- another gate at the end
+mended_records : (file image : List ℕ) → IsMended file image → (records image ≡ records file) ⊎ (records image ≡ records (with_open_gate file))
+mended_records file image m = elim (cases_eq m.gate 1) [
+  | inl opened ↦
+      let kept : take (end_of file) file ≡ front (records file) = ap (take (end_of file)) m.split ∙ take_at (front (records file)) m.rest (end_of file) refl in
+      let behind : drop (end_of file + 1) file ≡ drop 1 m.rest = sym (drop-drop 1 (end_of file) file) ∙ ap (drop 1) (ap (drop (end_of file)) m.split ∙ drop_at (front (records file)) m.rest (end_of file) refl) in
+      let same : with_open_gate file ≡ front (records file) ++ 1 ∷ drop 1 m.rest = ap (λ (l : List ℕ). l ++ (1 ∷ []) ++ drop (end_of file + 1) file) kept ∙ (append_assoc (front (records file)) (1 ∷ []) (drop (end_of file + 1) file) ∙ ap (λ (l : List ℕ). front (records file) ++ 1 ∷ l) behind) in
+      inr (ap records (m.mended ∙ ap (λ (g : ℕ). front (records file) ++ g ∷ drop 1 m.rest) opened ∙ sym same))
+  | inr other ↦ inl (ap records m.mended ∙ records_shut (records file) m.gate (drop 1 m.rest) m.short other)
+]
+
+-- while a file is opened
+pub mending_records : (file image : List ℕ) → Mends file image → (records image ≡ records file) ⊎ (records image ≡ records (with_open_gate file))
+mending_records file image (inl same) = inl (ap records same)
+mending_records file image (inr (inl new)) = inl (begun_records [] image new.1 ∙ sym (few_records file (omega (arith, new.0))))
+mending_records file image (inr (inr m)) = mended_records file image m
+
+module _ {D : Type 0} (moment : D → ℕ) (left : D → ℕ → List ℕ → Type 0) (j : Journal D) (image : List ℕ) (s : Stands moment left j) (is : left j.disk (moment j.disk) image) where
+  -- between calls
+  pub standing_holds : Holds (bodies_of j) (doubt_of j) image
+  standing_holds = now_holds (bodies_of j) (doubt_of j) s.short s.small image (s.images image is)
+
+  pub standing_records : doubt_of j ≡ None → records image ≡ bodies_of j
+  standing_records sure = records_closed (bodies_of j) image s.short (stands_as (bodies_of j) (doubt_of j) None image sure (s.images image is))

@@ -1,9 +1,12 @@
 -- What a journal stands for while its doubt is settled and a body is added.
-use Rattle.std.proofs.Common.{◌≡◌, inl, inr, ℕ, ◌+◌, ◌^◌, ◌≤◌, ◌<◌, List, [], ◌∷◌, ◌++◌, length, take, false, ◌-◌, Option, None, Some, IfSome, refl, sym, ◌∙◌, ap, subst, arith, length-append}
+use Rattle.std.proofs.Common.{◌≡◌, inl, inr, ℕ, ◌+◌, ◌^◌, ◌≤◌, ◌<◌, List, [], ◌∷◌, ◌++◌, length, map, take, false, ◌-◌, Option, None, Some, IfSome, refl, sym, ◌∙◌, ap, subst, arith, length-append}
 use Rattle.std.specs.Int.{bytes_high_first}
 use Rattle.std.specs.Option.{is_none, option_map}
 use Rattle.std.proofs.lemmas.Bool.{false≢true}
-use Rattle.std.proofs.lemmas.List.{take_at}
+use Rattle.std.proofs.lemmas.List.{take_at, append-nil}
+use Rattle.std.specs.Prelude.{Vec}
+use Rattle.std.specs.declared.alloc.Global.{Global}
+use Rattle.std.specs.declared.snapshot.Snapshot.{Snapshot}
 use Rattle.disk_model.specs.Disk.{TornFrom}
 use Rattle.disk_model.specs.Moments.{LeavesOnly}
 use Rattle.disk_model.proofs.Moments.{starts, weaker, joins, now_has}
@@ -20,6 +23,10 @@ short_more (b ∷ bodies) body short small = (short.0, short_more bodies body sh
 
 pub end_more : (bodies : List (List ℕ)) (body : List ℕ) (end : ℕ) → end ≡ length (front bodies) → end + 5 + length body ≡ length (front (bodies ++ body ∷ []))
 end_more bodies body end is = omega (arith, is, ap length (front_more bodies body) ∙ length-append (front bodies) (1 ∷ record_of body))
+
+-- those that were found, before one is added
+pub found_bodies : (found : Snapshot (Vec (List ℕ) Global)) (added : List (Vec ℕ Global × ℕ)) (bodies : Vec (List ℕ) Global) → found.value ≡ bodies → added ≡ [] → found.value.items ++ map (λ p. body_in p.0.items) added ≡ bodies.items
+found_bodies found added bodies is none = rw is (rw none (append-nil bodies.items))
 
 -- ---- the body in doubt
 

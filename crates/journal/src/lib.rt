@@ -4,6 +4,7 @@
 mod append;
 mod fault;
 mod journal;
+mod laws;
 mod mending;
 mod mounting;
 mod opening;
@@ -14,6 +15,8 @@ mod spelling;
 
 pub use fault::{AppendFault, MountFault};
 pub use journal::{Journal, JournalRoom};
+pub use laws::{
+    a_journal_stands_for_its_bodies, a_mounting_opens_one_gate_at_most,
+    an_append_leaves_at_most_one_more, an_image_is_read_as_its_bodies,
+};
 pub use mounting::Unmounted;
-pub use opening::open_file;
-pub use put::write_through;
