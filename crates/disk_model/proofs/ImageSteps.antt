@@ -1,91 +1,73 @@
 -- What a call does to the images of a file in memory.
-use Rattle.std.proofs.Common.{◌≡◌, inl, inr, ℕ, zero, suc, ◌≤◌, List, [], ◌∷◌, ◌++◌, length, refl, sym, ◌∙◌, subst, arith, length-append}
+use Rattle.std.proofs.Common.{◌≡◌, inl, inr, ℕ, zero, suc, ◌+◌, ◌≤◌, List, [], ◌∷◌, ◌++◌, length, refl, sym, ◌∙◌, ap, subst, arith, length-append}
 use Rattle.disk_model.specs.Disk.{Torn, Follows, Same, Only}
-use Rattle.disk_model.specs.Images.{Past, IsImage, leaves, left_since, left_at}
+use Rattle.disk_model.specs.Images.{Stored, IsTornBy, IsImage, left_at, settled}
+use Rattle.disk_model.specs.Memory.{DiskState, left_of, moment_of, wrote}
 use Rattle.disk_model.specs.Moments.{Passes}
-use Rattle.disk_model.specs.declared.effect.Effect.{Effect}
-use Rattle.disk_model.specs.declared.effect.Effect.TheVariants.{Still, Write, Sync}
-use Rattle.std.specs.Prelude.{Vec}
-use Rattle.std.specs.declared.alloc.Global.{Global}
+use Rattle.disk_model.proofs.Overwriting.{torn_by_write}
 
--- the images of now are those that the calls left, and what a read gives
-abbrev left_by : (List ℕ → Type 0) → Past → List ℕ → Type 0
-left_by older [] = older
-left_by older (call ∷ past) = left_by (leaves older call.0.items call.1) past
+-- ---- moments
 
-now_is : (older : List ℕ → Type 0) (past : Past) (now image : List ℕ) → left_since older past now (length past) image ≡ IsImage (left_by older past) now image
-now_is older [] now image = refl
-now_is older (call ∷ past) now image = now_is (leaves older call.0.items call.1) past now image
+here_is : (past : List Stored) (now : Stored) (image : List ℕ) → left_at past now (length past) image ≡ IsImage now image
+here_is [] now image = refl
+here_is (before ∷ past) now image = here_is past now image
 
--- those that one more call left
-left_by-more : (older : List ℕ → Type 0) (past : Past) (bytes : Vec ℕ Global) (effect : Effect) (image : List ℕ)
-    → left_by older (past ++ (bytes, effect) ∷ []) image ≡ leaves (left_by older past) bytes.items effect image
-left_by-more older [] bytes effect image = refl
-left_by-more older (call ∷ past) bytes effect image = left_by-more (leaves older call.0.items call.1) past bytes effect image
+-- earlier ones are as they were, whatever is stored now
+earlier : (past : List Stored) (before now : Stored) (t : ℕ) (image : List ℕ) → t ≤ length past → left_at (past ++ before ∷ []) now t image ≡ left_at past before t image
+earlier [] before now zero image le = refl
+earlier [] before now (suc t) image le = absurd (omega arith)
+earlier (first ∷ past) before now zero image le = refl
+earlier (first ∷ past) before now (suc t) image le = earlier past before now t image (omega arith)
 
--- earlier moments are as they were, whatever is now
-earlier : (older : List ℕ → Type 0) (past : Past) (bytes : Vec ℕ Global) (effect : Effect) (now : List ℕ) (t : ℕ) (image : List ℕ) → t ≤ length past
-    → left_since older (past ++ (bytes, effect) ∷ []) now t image ≡ left_since older past bytes.items t image
-earlier older [] bytes effect now zero image le = refl
-earlier older [] bytes effect now (suc t) image le = absurd (omega arith)
-earlier older (call ∷ past) bytes effect now zero image le = refl
-earlier older (call ∷ past) bytes effect now (suc t) image le = earlier (leaves older call.0.items call.1) past bytes effect now t image (omega arith)
+module _ (old new : DiskState) (past : new.past ≡ old.past ++ old.stored ∷ []) where
+  pub passes : Passes (moment_of old) (moment_of new) (left_of old) (left_of new)
+  passes = rw past (record {
+    next = length-append old.past (old.stored ∷ []);
+    kept = λ t image le was. subst (λ (T : Type 0). T) (earlier old.past old.stored new.stored t image le) was;
+    keeps = λ t image le was. subst (λ (T : Type 0). T) (sym (earlier old.past old.stored new.stored t image le)) was;
+  })
 
--- the moment goes on by what is noted as a call begins
-pub passes : (past past' : Past) (bytes : Vec ℕ Global) (effect : Effect) (now : List ℕ) → past' ≡ past ++ (bytes, effect) ∷ []
-    → Passes (length past) (length past') (left_at past bytes.items) (left_at past' now)
-passes past past' bytes effect now is = rw is (record {
-  next = length-append past ((bytes, effect) ∷ []);
-  kept = λ t image le was. subst (λ (T : Type 0). T) (earlier (λ i. ⊥) past bytes effect now t image le) was;
-  keeps = λ t image le was. subst (λ (T : Type 0). T) (sym (earlier (λ i. ⊥) past bytes effect now t image le)) was;
-})
+-- a step of the images
+follows : (step : List ℕ → List ℕ → Type 0) (old new : DiskState) → Follows step (IsImage old.stored) (IsImage new.stored) → Follows step (left_of old (moment_of old)) (left_of new (moment_of new))
+follows step old new so image is =
+    let from = so image (subst (λ (T : Type 0). T) (here_is new.past new.stored image) is) in
+    (from.0, subst (λ (T : Type 0). T) (sym (here_is old.past old.stored from.0)) from.1, from.2)
 
--- what is among the images of now, behind one more call
-image_behind : (past : Past) (bytes : Vec ℕ Global) (effect : Effect) (now image : List ℕ) → IsImage (left_by (λ i. ⊥) (past ++ (bytes, effect) ∷ [])) now image
-    → IsImage (leaves (left_by (λ i. ⊥) past) bytes.items effect) now image
-image_behind past bytes effect now image (inl left) = inl (subst (λ (T : Type 0). T) (left_by-more (λ i. ⊥) past bytes effect image) left)
-image_behind past bytes effect now image (inr seen) = inr seen
+-- ---- a call that changes nothing
 
-behind : (past past' : Past) (bytes : Vec ℕ Global) (effect : Effect) (now image : List ℕ) → past' ≡ past ++ (bytes, effect) ∷ [] → left_at past' now (length past') image
-    → IsImage (leaves (left_by (λ i. ⊥) past) bytes.items effect) now image
-behind past past' bytes effect now image is left =
-    image_behind past bytes effect now image
-    (subst (λ (p : Past). IsImage (left_by (λ i. ⊥) p) now image) is (subst (λ (T : Type 0). T) (now_is (λ i. ⊥) past' now image) left))
+pub stays : (old new : DiskState) → new.stored ≡ old.stored → Follows Same (left_of old (moment_of old)) (left_of new (moment_of new))
+stays old new same = follows Same old new (λ image is. (image, subst (λ (s : Stored). IsImage s image) same is, refl))
 
--- a step of the images by one call
-pub follows : (step : List ℕ → List ℕ → Type 0) (past past' : Past) (bytes : Vec ℕ Global) (effect : Effect) (now : List ℕ) → past' ≡ past ++ (bytes, effect) ∷ []
-    → Follows step (IsImage (left_by (λ i. ⊥) past) bytes.items) (IsImage (leaves (left_by (λ i. ⊥) past) bytes.items effect) now)
-    → Follows step (left_at past bytes.items (length past)) (left_at past' now (length past'))
-follows step past past' bytes effect now is so image left =
-    let from = so image (behind past past' bytes effect now image is left) in
-    (from.0, subst (λ (T : Type 0). T) (sym (now_is (λ i. ⊥) past bytes.items from.0)) from.1, from.2)
+-- ---- a write
 
--- a call that changes nothing
-pub stays : (past past' : Past) (bytes : Vec ℕ Global) (now : List ℕ) → past' ≡ past ++ (bytes, Still) ∷ [] → now ≡ bytes.items
-    → Follows Same (left_at past bytes.items (length past)) (left_at past' now (length past'))
-stays past past' bytes now is same = follows Same past past' bytes Still now is (step (left_by (λ i. ⊥) past)) where
-  step : (older : List ℕ → Type 0) → Follows Same (IsImage older bytes.items) (IsImage (leaves older bytes.items Still) now)
-  step older image (inl left) = (image, inl left, refl)
-  step older image (inr seen) = (image, inr (seen ∙ same), refl)
+-- the last write tears one of the images before it
+torn_last : (written : List (ℕ × ℕ)) (write : ℕ × ℕ) (old image : List ℕ) → IsTornBy (written ++ write ∷ []) old image → (mid : List ℕ) × IsTornBy written old mid × Torn write.0 write.1 mid image
+torn_last [] write old image torn = (old, refl, subst (Torn write.0 write.1 old) (sym torn.2) torn.1)
+torn_last (first ∷ written) write old image torn = let from = torn_last written write torn.0 image torn.2 in (from.0, (torn.0, torn.1, from.1), from.2)
 
--- a write, which may have failed
-pub writes : (past past' : Past) (bytes : Vec ℕ Global) (at len : ℕ) (now : List ℕ) → past' ≡ past ++ (bytes, Write at len) ∷ [] → Torn at len bytes.items now
-    → Follows (Torn at len) (left_at past bytes.items (length past)) (left_at past' now (length past'))
-writes past past' bytes at len now is torn = follows (Torn at len) past past' bytes (Write at len) now is (step (left_by (λ i. ⊥) past)) where
-  step : (older : List ℕ → Type 0) → Follows (Torn at len) (IsImage older bytes.items) (IsImage (leaves older bytes.items (Write at len)) now)
-  step older image (inl left) = left
-  step older image (inr seen) = (bytes.items, inr refl, subst (Torn at len bytes.items) (sym seen) torn)
+wrote_images : (s : Stored) (at : ℕ) (bytes : List ℕ) → at ≤ length s.bytes → Follows (Torn at (length bytes)) (IsImage s) (IsImage (wrote at bytes s))
+wrote_images s at bytes le image (inl is) = (s.bytes, inl refl, torn_by_write at bytes s.bytes image le is)
+wrote_images s at bytes le image (inr torn) = let from = torn_last s.written (at, length bytes) s.synced image torn in (from.0, inr from.1, from.2)
 
--- a sync
-pub syncs : (past past' : Past) (bytes : Vec ℕ Global) (now : List ℕ) → past' ≡ past ++ (bytes, Sync) ∷ [] → now ≡ bytes.items
-    → Follows Same (left_at past bytes.items (length past)) (left_at past' now (length past'))
-syncs past past' bytes now is same = follows Same past past' bytes Sync now is (step (left_by (λ i. ⊥) past)) where
-  step : (older : List ℕ → Type 0) → Follows Same (IsImage older bytes.items) (IsImage (leaves older bytes.items Sync) now)
-  step older image (inl left) = (bytes.items, inr refl, left)
-  step older image (inr seen) = (bytes.items, inr refl, seen ∙ same)
+pub writes : (old new : DiskState) (at : ℕ) (bytes : List ℕ) → at ≤ length old.stored.bytes → new.stored ≡ wrote at bytes old.stored → Follows (Torn at (length bytes)) (left_of old (moment_of old)) (left_of new (moment_of new))
+writes old new at bytes le is = follows (Torn at (length bytes)) old new (subst (λ (s : Stored). Follows (Torn at (length bytes)) (IsImage old.stored) (IsImage s)) (sym is) (wrote_images old.stored at bytes le))
 
-pub synced : (past past' : Past) (bytes : Vec ℕ Global) (now : List ℕ) → past' ≡ past ++ (bytes, Sync) ∷ [] → now ≡ bytes.items → Only bytes.items (left_at past' now (length past'))
-synced past past' bytes now is same image left = only (left_by (λ i. ⊥) past) (behind past past' bytes Sync now image is left) where
-  only : (older : List ℕ → Type 0) → IsImage (leaves older bytes.items Sync) now image → image ≡ bytes.items
-  only older (inl at) = at
-  only older (inr seen) = seen ∙ same
+torn_nothing : (at n : ℕ) (old : List ℕ) → Torn at n old old
+torn_nothing at n old = record { before = refl; after = refl; no_shorter = omega arith; no_longer = omega arith }
+
+-- one that wrote nothing
+pub writes_not : (old new : DiskState) (at n : ℕ) → new.stored ≡ old.stored → Follows (Torn at n) (left_of old (moment_of old)) (left_of new (moment_of new))
+writes_not old new at n same = follows (Torn at n) old new (λ image is. (image, subst (λ (s : Stored). IsImage s image) same is, torn_nothing at n image))
+
+-- ---- a sync
+
+only_settled : (bytes image : List ℕ) → IsImage (settled bytes) image → image ≡ bytes
+only_settled bytes image (inl is) = is
+only_settled bytes image (inr is) = is
+
+pub synced : (old new : DiskState) → new.stored ≡ settled old.stored.bytes → Only old.stored.bytes (left_of new (moment_of new))
+synced old new is image left =
+    only_settled old.stored.bytes image (subst (λ (s : Stored). IsImage s image) is (subst (λ (T : Type 0). T) (here_is new.past new.stored image) left))
+
+pub syncs : (old new : DiskState) → new.stored ≡ settled old.stored.bytes → Follows Same (left_of old (moment_of old)) (left_of new (moment_of new))
+syncs old new is = follows Same old new (λ image here. (old.stored.bytes, inl refl, only_settled old.stored.bytes image (subst (λ (s : Stored). IsImage s image) is here)))

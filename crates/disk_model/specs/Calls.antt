@@ -22,3 +22,8 @@ HasFailed (SyncCall answer) = answer ≡ Failed
 -- The call was added at the end: a disk that tells its calls now told them before. It may stop telling.
 abbrev pub AddsCall : Option (List DiskCall) → Option (List DiskCall) → DiskCall → Type 0
 AddsCall old new call = IfSome new (λ now. (before : List DiskCall) × (old ≡ Some before) × (now ≡ before ++ call ∷ []))
+
+-- These calls were made, one after the other.
+abbrev pub Through : {D : Type 0} → (D → DiskCall → D → Type 0) → D → List DiskCall → D → Type 0
+Through makes old [] new = new ≡ old
+Through {D} makes old (call ∷ calls) new = (mid : D) × makes old call mid × Through makes mid calls new

@@ -1,6 +1,9 @@
+pub mod Arms
 pub mod Calls
 pub mod Disk
 pub mod ImageLaws
 pub mod Images
+pub mod Made
 pub mod Memory
 pub mod Moments
+pub mod Undoing

@@ -11,10 +11,11 @@ pub record Passes (before now : ℕ) (left left' : ℕ → List ℕ → Type 0) 
   pub keeps : (moment : ℕ) (image : List ℕ) → moment ≤ before → left moment image → left' moment image
 
 -- What each call of a disk does in time, whatever it answers.
-pub record Called {D : Type 0} (name moment : D → ℕ) (left : D → ℕ → List ℕ → Type 0) (calls : D → Option (List DiskCall)) (faults : D → ℕ) (old new : D) (made : DiskCall) : Type 0 where
+pub record Called {D : Type 0} (name moment : D → ℕ) (left : D → ℕ → List ℕ → Type 0) (calls : D → Option (List DiskCall)) (makes : D → DiskCall → D → Type 0) (faults : D → ℕ) (old new : D) (made : DiskCall) : Type 0 where
   pub same : name new ≡ name old
   pub time : Passes (moment old) (moment new) (left old) (left new)
   pub call : AddsCall (calls old) (calls new) made
+  pub change : makes old made new
   pub later : faults old ≤ faults new
   -- the count rises at each failure, and at nothing else
   pub cause : HasFailed made → Rose (faults old) (faults new)

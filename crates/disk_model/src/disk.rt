@@ -29,6 +29,9 @@ pub trait Disk {
     // The calls so far, where they are told.
     ghost calls: { Self → Option (List DiskCall) };
 
+    // What a call makes of the disk, as far as that is told.
+    ghost makes: { Self → DiskCall → Self → Type 0 };
+
     // How often a call has failed. It never falls, and stays at 2^64 - 1 once there.
     ghost faults: { Self → ℕ };
 
@@ -37,7 +40,7 @@ pub trait Disk {
         ensures len { IsLength result (seen self.old) }
         ensures seen { seen self.new ≡ seen self.old }
         ensures images { Follows Same (left self.old (moment self.old)) (left self.new (moment self.new)) }
-        ensures called { Called name moment left calls faults self.old self.new (LenCall result) };
+        ensures called { Called name moment left calls makes faults self.old self.new (LenCall result) };
 
     /// Fills the buffer from this place on. The range lies in the file.
     fn read(&mut self, at: u64, buf: &mut [u8]) -> DiskDone
@@ -45,7 +48,7 @@ pub trait Disk {
         ensures bytes { result ≡ DiskDone.Done → IfSome (seen self.old) (IsPart at buf.new) }
         ensures seen { seen self.new ≡ seen self.old }
         ensures images { Follows Same (left self.old (moment self.old)) (left self.new (moment self.new)) }
-        ensures called { Called name moment left calls faults self.old self.new (ReadCall at (length buf.old) result) };
+        ensures called { Called name moment left calls makes faults self.old self.new (ReadCall at (length buf.old) result) };
 
     /// Writes the bytes from this place on, which is at most the file's length. The file grows where
     /// they pass its end. A write that fails may leave any bytes in its range.
@@ -54,14 +57,14 @@ pub trait Disk {
         ensures written { result ≡ DiskDone.Done → seen self.new ≡ option_map (overwritten at bytes.now) (seen self.old) }
         ensures torn { TearsSeen at (length bytes.now) (seen self.old) (seen self.new) }
         ensures images { Follows (Torn at (length bytes.now)) (left self.old (moment self.old)) (left self.new (moment self.new)) }
-        ensures called { Called name moment left calls faults self.old self.new (WriteCall at bytes.now result) };
+        ensures called { Called name moment left calls makes faults self.old self.new (WriteCall at bytes.now result) };
 
     /// After `Done` a crash leaves what a read gives. A sync that fails syncs nothing.
     fn sync(&mut self) -> DiskDone
         ensures seen { seen self.new ≡ seen self.old }
         ensures durable { result ≡ DiskDone.Done → IfSome (seen self.old) (λ bytes. Only bytes (left self.new (moment self.new))) }
         ensures images { Follows Same (left self.old (moment self.old)) (left self.new (moment self.new)) }
-        ensures called { Called name moment left calls faults self.old self.new (SyncCall result) };
+        ensures called { Called name moment left calls makes faults self.old self.new (SyncCall result) };
 
     /// How often a call has failed.
     fn fault_count(&self) -> u64
@@ -84,6 +87,8 @@ impl<D: Disk> Disk for &mut D {
     ghost left = { λ d moment image. D.left d.now moment image };
 
     ghost calls = { λ d. D.calls d.now };
+
+    ghost makes = { λ old call new. D.makes old.now call new.now };
 
     ghost faults = { λ d. D.faults d.now };
 

@@ -12,12 +12,19 @@
 #![tactic(auto)]
 
 mod answer;
+mod arming;
+mod arms;
+mod call_log;
 mod disk;
-mod effect;
+mod image;
 mod memory_disk;
+mod undo;
 
 pub use answer::{DiskDone, DiskLen};
+pub use arms::Arms;
+pub use call_log::{CallLog, Made};
 pub use disk::Disk;
+pub use image::{Arm, Armed, Image, Restarted};
 pub use memory_disk::MemDisk;
 
 #[cfg(test)]

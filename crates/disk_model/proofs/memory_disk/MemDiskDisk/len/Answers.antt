@@ -1,14 +1,11 @@
-use Rattle.std.proofs.Common.{ap}
-use Rattle.disk_model.specs.declared.effect.Effect.TheVariants.{Still}
 use Rattle.disk_model.proofs.ImageSteps.{stays}
-use Rattle.disk_model.proofs.MemoryCalls.{called_done}
+use Rattle.disk_model.proofs.MemoryCalls.{called, len_stored}
 use Rattle.disk_model.proofs.memory_disk.MemDiskDisk.len.Goals as goal
 
 pub returns-clause-images : goal.returns-clause-images
 returns-clause-images c =
-    let old = c.args.self.now in
-    let new = c.begin.new.self in
-    stays old.past.items new.past.items old.bytes new.bytes.items c.begin.ensures.past (ap (λ bytes. bytes.items) c.begin.ensures.rest.0)
+    let made = c.len_now.ensures.made in
+    stays c.args.self.now c.len_now.new.self (len_stored c.args.self.now c.len_now.new.self _ made.1)
 
 pub returns-clause-called : goal.returns-clause-called
-returns-clause-called c = called_done c.args.self.now c.begin.new.self Still _ c.begin.ensures.past c.begin.ensures.rest.1 (λ failed. cc (failed))
+returns-clause-called c = called c.args.self.now c.len_now.new.self _ c.len_now.ensures.made c.len_now.ensures.later

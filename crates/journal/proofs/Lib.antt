@@ -1,0 +1,8 @@
+mod Beginning
+pub mod Holding
+mod FileEnds
+mod Planning
+pub mod Reading
+mod Standing
+mod Steps
+mod Tearing
