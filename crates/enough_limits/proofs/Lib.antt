@@ -1,0 +1,5 @@
+pub mod Choose
+pub mod Leaves
+pub mod Limited
+pub mod ByVariable
+pub mod Products

@@ -1,0 +1,6 @@
+use Rattle.std.proofs.Common.{◌≡◌, ◌*◌, ◌≤◌, take, sum_by}
+use Rattle.enough_limits.specs.Bounds.{columns_of_var}
+use Rattle.enough_limits.proofs.root.columns_of_vars.Given as goal
+
+abbrev pub invariant-loop-var : goal.invariant-loop-var
+invariant-loop-var l = record { value : l.count ≡ sum_by columns_of_var (take l.var-index l.vars); most : l.count ≤ 2 * l.var-index }
