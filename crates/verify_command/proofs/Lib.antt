@@ -1,0 +1,5 @@
+pub mod InputParts
+pub mod Lengths
+pub mod OneBadLine
+pub mod OneFinding
+pub mod Told

@@ -1,0 +1,4 @@
+pub mod Findings
+pub mod Input
+pub mod Texts
+pub mod Verify
