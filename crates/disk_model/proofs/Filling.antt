@@ -45,7 +45,7 @@ filled_twice here there byte place (b ∷ bytes) = ap₂ (λ (x : ℕ) (l : List
     one false false = refl
 
 -- none of these places
-none_filled : (here : ℕ → Bool) (byte place : ℕ) (bytes : List ℕ) → ((i : ℕ) → place ≤ i → i < place + length bytes → here i ≡ false) → filled_from place here byte bytes ≡ bytes
+pub none_filled : (here : ℕ → Bool) (byte place : ℕ) (bytes : List ℕ) → ((i : ℕ) → place ≤ i → i < place + length bytes → here i ≡ false) → filled_from place here byte bytes ≡ bytes
 none_filled here byte place [] none = refl
 none_filled here byte place (b ∷ bytes) none =
     ap₂ (λ (h : Bool) (l : List ℕ). (if h then byte else b) ∷ l) (none place (omega arith) (omega arith)) (none_filled here byte (place + 1) bytes (λ i from to. none i (omega (arith, from)) (omega (arith, to))))
@@ -59,17 +59,17 @@ written_more (first ∷ written) write i =
     let here = nat_le first.0 i && nat_lt i (first.0 + first.1) in
     ap (λ (b : Bool). here || b) (written_more written write i) ∙ sym (or_assoc here (is_written written i) (is_written (write ∷ []) i))
 
-outside_before : (at len i : ℕ) → i < at → is_written ((at, len) ∷ []) i ≡ false
+pub outside_before : (at len i : ℕ) → i < at → is_written ((at, len) ∷ []) i ≡ false
 outside_before at len i less = ap (λ (b : Bool). b && nat_lt i (at + len) || false) (lt-leb at i less)
 
-outside_behind : (at len i : ℕ) → at + len ≤ i → is_written ((at, len) ∷ []) i ≡ false
+pub outside_behind : (at len i : ℕ) → at + len ≤ i → is_written ((at, len) ∷ []) i ≡ false
 outside_behind at len i more = ap (λ (b : Bool). nat_le at i && b || false) (le-ltb i (at + len) more) ∙ neither (nat_le at i)
   where
     neither : (b : Bool) → (b && false || false) ≡ false
     neither true = refl
     neither false = refl
 
-inside_it : (at len i : ℕ) → at ≤ i → i < at + len → is_written ((at, len) ∷ []) i ≡ true
+pub inside_it : (at len i : ℕ) → at ≤ i → i < at + len → is_written ((at, len) ∷ []) i ≡ true
 inside_it at len i from to = ap₂ (λ (a b : Bool). a && b || false) (le-leb at i from) (lt-ltb i (at + len) to)
 
 -- a byte in each place of one write, as far as it lies in the bytes
@@ -103,7 +103,7 @@ fill_none byte bytes = sym (none_filled (is_written []) byte 0 bytes (λ i from 
 -- ---- what a stop leaves is an image
 
 -- the same places filled before a write that was torn and behind it
-torn_filled : (here there : ℕ → Bool) (at n byte : ℕ) (old new : List ℕ) → ((i : ℕ) → i < at → here i ≡ there i) → ((i : ℕ) → at + n ≤ i → here i ≡ there i) → Torn at n old new → Torn at n (filled_from 0 here byte old) (filled_from 0 there byte new)
+pub torn_filled : (here there : ℕ → Bool) (at n byte : ℕ) (old new : List ℕ) → ((i : ℕ) → i < at → here i ≡ there i) → ((i : ℕ) → at + n ≤ i → here i ≡ there i) → Torn at n old new → Torn at n (filled_from 0 here byte old) (filled_from 0 there byte new)
 torn_filled here there at n byte old new before behind torn = record {
   before = take-filled there byte at 0 new ∙ (ap (filled_from 0 there byte) torn.before ∙ (sym (same_filled here there byte 0 (take at old) (λ i from to. before i (omega (arith, to, length-take at old)))) ∙ sym (take-filled here byte at 0 old)));
   after = drop-filled there byte (at + n) 0 new ∙ (ap (filled_from (0 + (at + n)) there byte) torn.after ∙ (sym (same_filled here there byte (0 + (at + n)) (drop (at + n) old) (λ i from to. behind i (omega (arith, from)))) ∙ sym (drop-filled here byte (at + n) 0 old)));

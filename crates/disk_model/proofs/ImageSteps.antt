@@ -52,7 +52,7 @@ wrote_images s at bytes le image (inr torn) = let from = torn_last s.written (at
 pub writes : (old new : DiskState) (at : ℕ) (bytes : List ℕ) → at ≤ length old.stored.bytes → new.stored ≡ wrote at bytes old.stored → Follows (Torn at (length bytes)) (left_of old (moment_of old)) (left_of new (moment_of new))
 writes old new at bytes le is = follows (Torn at (length bytes)) old new (subst (λ (s : Stored). Follows (Torn at (length bytes)) (IsImage old.stored) (IsImage s)) (sym is) (wrote_images old.stored at bytes le))
 
-torn_nothing : (at n : ℕ) (old : List ℕ) → Torn at n old old
+pub torn_nothing : (at n : ℕ) (old : List ℕ) → Torn at n old old
 torn_nothing at n old = record { before = refl; after = refl; no_shorter = omega arith; no_longer = omega arith }
 
 -- one that wrote nothing
@@ -68,6 +68,10 @@ only_settled bytes image (inr is) = is
 pub synced : (old new : DiskState) → new.stored ≡ settled old.stored.bytes → Only old.stored.bytes (left_of new (moment_of new))
 synced old new is image left =
     only_settled old.stored.bytes image (subst (λ (s : Stored). IsImage s image) is (subst (λ (T : Type 0). T) (here_is new.past new.stored image) left))
+
+-- a disk without writes since its sync
+pub only_now : (d : DiskState) (bytes : List ℕ) → d.stored ≡ settled bytes → Only bytes (left_of d (moment_of d))
+only_now d bytes is image left = only_settled bytes image (subst (λ (s : Stored). IsImage s image) is (subst (λ (T : Type 0). T) (here_is d.past d.stored image) left))
 
 pub syncs : (old new : DiskState) → new.stored ≡ settled old.stored.bytes → Follows Same (left_of old (moment_of old)) (left_of new (moment_of new))
 syncs old new is = follows Same old new (λ image here. (old.stored.bytes, inl refl, only_settled old.stored.bytes image (subst (λ (s : Stored). IsImage s image) is here)))

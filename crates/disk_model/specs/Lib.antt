@@ -6,4 +6,5 @@ pub mod Images
 pub mod Made
 pub mod Memory
 pub mod Moments
+pub mod Spoiled
 pub mod Undoing

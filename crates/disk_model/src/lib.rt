@@ -17,6 +17,7 @@ mod arms;
 mod call_log;
 mod disk;
 mod image;
+mod laws;
 mod memory_disk;
 mod undo;
 
@@ -25,6 +26,7 @@ pub use arms::Arms;
 pub use call_log::{CallLog, Made};
 pub use disk::Disk;
 pub use image::{Arm, Armed, Image, Restarted};
+pub use laws::torn_writes_are_the_disk_model;
 pub use memory_disk::MemDisk;
 
 #[cfg(test)]

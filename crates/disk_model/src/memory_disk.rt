@@ -1,6 +1,9 @@
 //! A disk in memory.
 
-ghost use Rattle.std.specs.Prelude.{◌≡◌, ◌≤◌, ◌+◌, is_some, OnOk, OnErr, length, take, drop};
+ghost use Rattle.std.specs.Prelude.{◌≡◌, ◌≤◌, ◌+◌, true, is_some, OnOk, OnErr, length, take, drop};
+ghost use Rattle.disk_model.specs.Disk.{Only};
+ghost use Rattle.disk_model.specs.Images.{stop_image};
+ghost use Rattle.disk_model.specs.declared.image.Image.{Image as stop_kind};
 ghost use Rattle.disk_model.specs.Memory.{CallMade, answered, begun_of, entered, left_of, moment_of, new_disk, restarted, with_fail, with_stop, with_stopped};
 ghost use Rattle.disk_model.specs.Calls.{LenCall, ReadCall, WriteCall, SyncCall};
 ghost use Rattle.disk_model.specs.Made.{call_of};
@@ -105,11 +108,28 @@ impl MemDisk {
         self.refused
     }
 
-    /// Starts the machine again: the disk is what the stop left, which is an image that a crash might have left. Nothing changes
-    /// where no stop has come. What was armed since the stop counts the calls from now on.
+    /// Starts the machine again: the disk is what the stop left, which is an image that a crash then might have left. Nothing
+    /// changes where no stop has come. What was armed since the stop counts the calls from now on. Today it takes no memory.
     pub fn after_stop(&mut self, _alloc: Global) -> Result<Restarted, NoMemory>
         ensures ok { OnOk result (self.new ≡ restarted self.old) }
         ensures err { OnErr result (self.new ≡ self.old) }
+        ensures left { OnOk result (left_of self.old (moment_of self.old) self.new.stored.bytes) }
+        ensures only { is_some self.old.stopped ≡ true → OnOk result (Only self.new.stored.bytes (left_of self.new (moment_of self.new))) }
+    {
+        self.leaves_images();
+        self.restart();
+        Ok(Restarted)
+    }
+
+    /// What a stop leaves is an image that a crash might leave.
+    fn leaves_images(&self)
+        ensures { (image : stop_kind) → left_of self.now (moment_of self.now) (stop_image image self.now.stored) }
+    {
+        let _ = &self.undo;
+    }
+
+    fn restart(&mut self)
+        ensures { self.new ≡ restarted self.old }
     {
         if let Some(image) = self.stopped {
             match image {
@@ -120,7 +140,6 @@ impl MemDisk {
             self.undo.clear();
             self.stopped = None;
         }
-        Ok(Restarted)
     }
 
     /// A stop comes: it removes all that is armed.

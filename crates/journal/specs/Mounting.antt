@@ -58,20 +58,20 @@ abbrev pub IsTold : Option (List ℕ) → List ℕ → Type 0
 IsTold seen file = IfSome seen (λ told. told ≡ file)
 
 -- up to the first failure, or to want of memory
-abbrev pub RanUpTo : Option MountFault → List Step → Option (List DiskCall) → Option (List DiskCall) → Type 0
-RanUpTo None plan old new = RanOn plan old new true
-RanUpTo (Some (NotAJournal head)) plan old new = RanOn plan old new true
-RanUpTo (Some DiskFailed) plan old new = RanOn plan old new false
-RanUpTo (Some NoMemory) plan old new = RanPart plan old new
+abbrev pub RanUpTo : {D : Type 0} → (calls : D → Option (List DiskCall)) → (makes : D → DiskCall → D → Type 0) → Option MountFault → List Step → (old new : D) → Type 0
+RanUpTo calls makes None plan old new = RanOn calls makes plan old new true
+RanUpTo calls makes (Some (NotAJournal head)) plan old new = RanOn calls makes plan old new true
+RanUpTo calls makes (Some DiskFailed) plan old new = RanOn calls makes plan old new false
+RanUpTo calls makes (Some NoMemory) plan old new = RanPart calls makes plan old new
 
 -- The calls are those that a plan names for some file, which is what the disk told, where it did.
-abbrev pub RanForFile : (List ℕ → List Step) → Option MountFault → (seen : Option (List ℕ)) → Option (List DiskCall) → Option (List DiskCall) → Type 0
-RanForFile plan fault seen old new = (file : List ℕ) × IsTold seen file × RanUpTo fault (plan file) old new
+abbrev pub RanForFile : {D : Type 0} → (seen : D → Option (List ℕ)) → (calls : D → Option (List DiskCall)) → (makes : D → DiskCall → D → Type 0) → (List ℕ → List Step) → Option MountFault → (old new : D) → Type 0
+RanForFile seen calls makes plan fault old new = (file : List ℕ) × IsTold (seen old) file × RanUpTo calls makes fault (plan file) old new
 
 -- it asked for the length, or failed at that or before
-abbrev pub RanToLength : DiskLen → Option (List DiskCall) → Option (List DiskCall) → Type 0
-RanToLength (Len len) old new = RanOn (measure_plan len) old new true
-RanToLength Failed old new = (len : ℕ) → RanOn (measure_plan len) old new false
+abbrev pub RanToLength : {D : Type 0} → (calls : D → Option (List DiskCall)) → (makes : D → DiskCall → D → Type 0) → DiskLen → (old new : D) → Type 0
+RanToLength calls makes (Len len) old new = RanOn calls makes (measure_plan len) old new true
+RanToLength calls makes Failed old new = (len : ℕ) → RanOn calls makes (measure_plan len) old new false
 
 -- ---- how a file is read
 

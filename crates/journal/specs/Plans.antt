@@ -1,7 +1,7 @@
 -- Which calls of the disk a call of the journal makes: those of its plan, in order, up to the first that fails.
 use Rattle.std.specs.Prelude.{ℕ, ◌+◌, ◌==◌, ◌≡◌, ◌⊎◌, ◌&&◌, nat_lt, Bool, true, false, List, [], ◌∷◌, ◌++◌, length, take, get_or, Option, None, Some, IfSome, if◌then◌else◌}
 use Rattle.std.specs.Str.{bytes_eq}
-use Rattle.disk_model.specs.Calls.{DiskCall, LenCall, ReadCall, WriteCall, SyncCall}
+use Rattle.disk_model.specs.Calls.{DiskCall, LenCall, ReadCall, WriteCall, SyncCall, Through}
 use Rattle.disk_model.specs.declared.answer.DiskLen.TheVariants.{Len, Failed as NoLen}
 use Rattle.disk_model.specs.declared.answer.DiskDone.TheVariants.{Failed, Done}
 use Rattle.journal.specs.Records.{end_of, header, record_of}
@@ -33,19 +33,19 @@ Ran (step ∷ plan) calls all =
 
 -- these calls were added at the end: a disk that tells its calls now told them before
 abbrev pub AddsCalls : Option (List DiskCall) → Option (List DiskCall) → List DiskCall → Type 0
-AddsCalls old new calls = IfSome new (λ now. (before : List DiskCall) × (old ≡ Some before) × (now ≡ before ++ calls))
+AddsCalls old new made = IfSome new (λ now. (before : List DiskCall) × (old ≡ Some before) × (now ≡ before ++ made))
 
--- a disk ran a plan, to its end or to its first failure
-abbrev pub RanOn : List Step → Option (List DiskCall) → Option (List DiskCall) → Bool → Type 0
-RanOn plan old new all = (calls : List DiskCall) × Ran plan calls all × AddsCalls old new calls
+-- A disk ran a plan, to its end or to its first failure: it made these calls, by what each makes of it, and told them.
+abbrev pub RanOn : {D : Type 0} → (calls : D → Option (List DiskCall)) → (makes : D → DiskCall → D → Type 0) → List Step → (old new : D) → Bool → Type 0
+RanOn calls makes plan old new all = (made : List DiskCall) × Ran plan made all × AddsCalls (calls old) (calls new) made × Through makes old made new
 
 -- it ran all of the first plan, and failed in the second one
-abbrev pub FailedBehind : (done plan : List Step) → Option (List DiskCall) → Option (List DiskCall) → Type 0
-FailedBehind done plan old new = (mid : Option (List DiskCall)) × RanOn done old mid true × RanOn plan mid new false
+abbrev pub FailedBehind : {D : Type 0} → (calls : D → Option (List DiskCall)) → (makes : D → DiskCall → D → Type 0) → (done plan : List Step) → (old new : D) → Type 0
+FailedBehind {D} calls makes done plan old new = (mid : D) × RanOn calls makes done old mid true × RanOn calls makes plan mid new false
 
 -- it ran a beginning of a plan, without a failure
-abbrev pub RanPart : List Step → Option (List DiskCall) → Option (List DiskCall) → Type 0
-RanPart plan old new = (done : List Step) × (rest : List Step) × (plan ≡ done ++ rest) × RanOn done old new true
+abbrev pub RanPart : {D : Type 0} → (calls : D → Option (List DiskCall)) → (makes : D → DiskCall → D → Type 0) → List Step → (old new : D) → Type 0
+RanPart calls makes plan old new = (done : List Step) × (rest : List Step) × (plan ≡ done ++ rest) × RanOn calls makes done old new true
 
 -- ---- the plans
 
@@ -68,11 +68,11 @@ append_plan doubt end body = settle_plan doubt end ++ (stage_plan end body ++ op
 
 -- An append that failed left this in doubt, by the call that failed: one of settling, of the first two that add the body, or
 -- of the last two.
-abbrev pub FailedAdding : (doubt : Option (List ℕ)) (end : ℕ) (body : List ℕ) → (after : Option (List ℕ)) → Option (List DiskCall) → Option (List DiskCall) → Type 0
-FailedAdding doubt end body after old new =
-    ((after ≡ doubt) × FailedBehind [] (settle_plan doubt end) old new)
-    ⊎ (((after ≡ None) × FailedBehind (settle_plan doubt end) (stage_plan end body) old new)
-    ⊎ ((after ≡ Some body) × FailedBehind (settle_plan doubt end ++ stage_plan end body) (open_plan end) old new))
+abbrev pub FailedAdding : {D : Type 0} → (calls : D → Option (List DiskCall)) → (makes : D → DiskCall → D → Type 0) → (doubt : Option (List ℕ)) (end : ℕ) (body : List ℕ) (after : Option (List ℕ)) → (old new : D) → Type 0
+FailedAdding calls makes doubt end body after old new =
+    ((after ≡ doubt) × FailedBehind calls makes [] (settle_plan doubt end) old new)
+    ⊎ (((after ≡ None) × FailedBehind calls makes (settle_plan doubt end) (stage_plan end body) old new)
+    ⊎ ((after ≡ Some body) × FailedBehind calls makes (settle_plan doubt end ++ stage_plan end body) (open_plan end) old new))
 
 -- the byte at the end is there and closes it
 abbrev pub is_closed : List ℕ → Bool

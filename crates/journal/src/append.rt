@@ -27,8 +27,8 @@ impl<D: Disk> Journal<D> {
         ensures ok { OnOk result ((bodies_of self.new ≡ bodies_of self.old ++ body.now ∷ []) × (doubt_of self.new ≡ None) × (self.new.end ≡ self.old.end + 5 + length body.now)) }
         ensures err { OnErr result ((bodies_of self.new ≡ bodies_of self.old) × (self.new.end ≡ self.old.end)) }
         ensures full { self.old.limit < self.old.end + 5 + length body.now → (result ≡ Err (AppendFault.Full (min (self.old.end + 5 + length body.now) (2 ^ 64 - 1)) self.old.limit)) × (self.new ≡ self.old) }
-        ensures fits { self.old.end + 5 + length body.now ≤ self.old.limit → OnErr result ((result ≡ Err AppendFault.DiskFailed) × FailedAdding (doubt_of self.old) self.old.end body.now (doubt_of self.new) (D.calls self.old.disk) (D.calls self.new.disk)) }
-        ensures calls { OnOk result (RanOn (append_plan (doubt_of self.old) self.old.end body.now) (D.calls self.old.disk) (D.calls self.new.disk) true) }
+        ensures fits { self.old.end + 5 + length body.now ≤ self.old.limit → OnErr result ((result ≡ Err AppendFault.DiskFailed) × FailedAdding D.calls D.makes (doubt_of self.old) self.old.end body.now (doubt_of self.new) self.old.disk self.new.disk) }
+        ensures calls { OnOk result (RanOn D.calls D.makes (append_plan (doubt_of self.old) self.old.end body.now) self.old.disk self.new.disk true) }
         ensures rest { (self.new.limit ≡ self.old.limit) × (self.new.reserved ≡ self.old.reserved) }
         ensures any_moment { LeavesOnly D.moment D.left self.old.disk self.new.disk (WhileAdding (bodies_of self.old) (doubt_of self.old) body.now) }
         ensures later { D.faults self.old.disk ≤ D.faults self.new.disk }
@@ -57,7 +57,7 @@ impl<D: Disk> Journal<D> {
         ensures buffer { self.new.room.items ≡ record_of body.now ++ 0 ∷ [] }
         ensures staged { result ≡ DiskDone.Done → (image : List ℕ) → D.left self.new.disk (D.moment self.new.disk) image → IsDoubtful (bodies_of self.old) body.now image }
         ensures any_moment { LeavesOnly D.moment D.left self.old.disk self.new.disk (IsClosed (bodies_of self.old)) }
-        ensures calls { RanOn (stage_plan self.old.end body.now) (D.calls self.old.disk) (D.calls self.new.disk) (is_done result) }
+        ensures calls { RanOn D.calls D.makes (stage_plan self.old.end body.now) self.old.disk self.new.disk (is_done result) }
         ensures later { D.faults self.old.disk ≤ D.faults self.new.disk }
         ensures failed { result ≡ DiskDone.Failed → Rose (D.faults self.old.disk) (D.faults self.new.disk) }
         ensures steady { result ≡ DiskDone.Done → D.faults self.new.disk ≡ D.faults self.old.disk }
@@ -80,7 +80,7 @@ impl<D: Disk> Journal<D> {
         ensures failure { result ≡ DiskDone.Failed → (bodies_of self.new ≡ bodies_of self.old) × (doubt_of self.new ≡ Some body.now) × (self.new.end ≡ self.old.end) }
         ensures rest { (self.new.limit ≡ self.old.limit) × (self.new.reserved ≡ self.old.reserved) }
         ensures any_moment { LeavesOnly D.moment D.left self.old.disk self.new.disk (Holds (bodies_of self.old) (Some body.now)) }
-        ensures calls { RanOn (open_plan self.old.end) (D.calls self.old.disk) (D.calls self.new.disk) (is_done result) }
+        ensures calls { RanOn D.calls D.makes (open_plan self.old.end) self.old.disk self.new.disk (is_done result) }
         ensures later { D.faults self.old.disk ≤ D.faults self.new.disk }
         ensures failed { result ≡ DiskDone.Failed → Rose (D.faults self.old.disk) (D.faults self.new.disk) }
         ensures steady { result ≡ DiskDone.Done → D.faults self.new.disk ≡ D.faults self.old.disk }
@@ -103,8 +103,8 @@ impl<D: Disk> Journal<D> {
         ensures stands { Stands D.moment D.left self.new }
         ensures ok { OnOk result ((bodies_of self.new ≡ bodies_of self.old ++ body.now ∷ []) × (doubt_of self.new ≡ None) × (self.new.end ≡ self.old.end + 5 + length body.now)) }
         ensures err { OnErr result ((bodies_of self.new ≡ bodies_of self.old) × (self.new.end ≡ self.old.end)) }
-        ensures doubt { OnErr result (FailedAdding (doubt_of self.old) self.old.end body.now (doubt_of self.new) (D.calls self.old.disk) (D.calls self.new.disk)) }
-        ensures calls { OnOk result (RanOn (append_plan (doubt_of self.old) self.old.end body.now) (D.calls self.old.disk) (D.calls self.new.disk) true) }
+        ensures doubt { OnErr result (FailedAdding D.calls D.makes (doubt_of self.old) self.old.end body.now (doubt_of self.new) self.old.disk self.new.disk) }
+        ensures calls { OnOk result (RanOn D.calls D.makes (append_plan (doubt_of self.old) self.old.end body.now) self.old.disk self.new.disk true) }
         ensures rest { (self.new.limit ≡ self.old.limit) × (self.new.reserved ≡ self.old.reserved) }
         ensures any_moment { LeavesOnly D.moment D.left self.old.disk self.new.disk (WhileAdding (bodies_of self.old) (doubt_of self.old) body.now) }
         ensures never_full { OnErr result (result ≡ Err AppendFault.DiskFailed) }

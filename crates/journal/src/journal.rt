@@ -2,12 +2,13 @@
 
 ghost use Rattle.std.specs.Prelude.{◌≡◌, ◌≤◌, ◌+◌, true, Some, None, Err, OnOk, OnErr, is_ok};
 ghost use Rattle.base_names.specs.Outside.{Rose};
+ghost use Rattle.disk_model.specs.Arms.{IsUnmoved};
 ghost use Rattle.disk_model.specs.Moments.{LeavesOnly};
 
 use crate::fault::AppendFault;
 use crate::put::write_through;
 use base_names::{History, NoMemory, Text};
-use disk_model::{Disk, DiskDone};
+use disk_model::{Arm, Armed, Arms, Disk, DiskDone};
 use std::alloc::Global;
 use std::snapshot::Snapshot;
 
@@ -47,7 +48,7 @@ impl<D: Disk> Journal<D> {
         ensures err { OnErr result (doubt_of self.new ≡ doubt_of self.old) }
         ensures sure { doubt_of self.old ≡ None → self.new ≡ self.old }
         ensures any_moment { LeavesOnly D.moment D.left self.old.disk self.new.disk (Holds (bodies_of self.old) (doubt_of self.old)) }
-        ensures calls { RanOn (settle_plan (doubt_of self.old) self.old.end) (D.calls self.old.disk) (D.calls self.new.disk) (is_ok result) }
+        ensures calls { RanOn D.calls D.makes (settle_plan (doubt_of self.old) self.old.end) self.old.disk self.new.disk (is_ok result) }
         ensures never_full { OnErr result (result ≡ Err AppendFault.DiskFailed) }
         ensures later { D.faults self.old.disk ≤ D.faults self.new.disk }
         ensures failed { OnErr result (Rose (D.faults self.old.disk) (D.faults self.new.disk)) }
@@ -93,5 +94,37 @@ impl<D: Disk> Journal<D> {
         ensures { result ≡ D.faults self.now.disk }
     {
         D::fault_count(&self.disk)
+    }
+}
+
+impl<D: Arms> Journal<D> {
+    ghost use Rattle.disk_model.specs.Memory.{IsLawfulArm};
+    ghost use Rattle.journal.specs.Standing.{Stands, bodies_of, doubt_of};
+
+    /// Arms a failure or a stop on the disk.
+    pub fn arm(&mut self, alloc: Global, arm: Arm) -> Result<Armed, NoMemory>
+        requires stands { Stands D.moment D.left self.old }
+        requires lawful { IsLawfulArm arm }
+        ensures stands { Stands D.moment D.left self.new }
+        ensures ok { OnOk result (D.arms self.old.disk arm self.new.disk) }
+        ensures err { OnErr result (self.new.disk ≡ self.old.disk) }
+        ensures disk { IsUnmoved D.name D.seen D.moment D.left D.calls D.faults self.old.disk self.new.disk }
+        ensures rest { (bodies_of self.new ≡ bodies_of self.old) × (doubt_of self.new ≡ doubt_of self.old) × (self.new.end ≡ self.old.end) × (self.new.limit ≡ self.old.limit) × (self.new.reserved ≡ self.old.reserved) }
+    {
+        self.disk.arm(alloc, arm)
+    }
+
+    /// Whether a stop has come.
+    pub fn stopped(&self) -> bool
+        ensures { result ≡ D.is_stopped self.now.disk }
+    {
+        self.disk.stopped()
+    }
+
+    /// How many calls of the disk failed because a growth found no memory.
+    pub fn refused(&self) -> u64
+        ensures { result ≡ D.refusals self.now.disk }
+    {
+        self.disk.refused()
     }
 }

@@ -18,7 +18,7 @@ pub fn mend<D: Disk>(disk: &mut D, file: &[u8], end: u64) -> DiskDone
     requires end { IsScanned file.now end }
     ensures done { result ≡ DiskDone.Done → (image : List ℕ) → D.left disk.new (D.moment disk.new) image → IsClosed (records file.now) image }
     ensures any_moment { LeavesOnly D.moment D.left disk.old disk.new (WhileMounting (D.left disk.old (D.moment disk.old))) }
-    ensures calls { RanOn (mend_plan file.now) (D.calls disk.old) (D.calls disk.new) (is_done result) }
+    ensures calls { RanOn D.calls D.makes (mend_plan file.now) disk.old disk.new (is_done result) }
     ensures later { D.faults disk.old ≤ D.faults disk.new }
     ensures failed { result ≡ DiskDone.Failed → Rose (D.faults disk.old) (D.faults disk.new) }
     ensures steady { result ≡ DiskDone.Done → D.faults disk.new ≡ D.faults disk.old }
@@ -36,7 +36,7 @@ pub fn begin_file<D: Disk>(disk: &mut D) -> DiskDone
     requires short { (image : List ℕ) → D.left disk.old (D.moment disk.old) image → length image ≤ 8 }
     ensures done { result ≡ DiskDone.Done → (image : List ℕ) → D.left disk.new (D.moment disk.new) image → IsClosed [] image }
     ensures any_moment { LeavesOnly D.moment D.left disk.old disk.new (WhileMounting (D.left disk.old (D.moment disk.old))) }
-    ensures calls { RanOn begin_plan (D.calls disk.old) (D.calls disk.new) (is_done result) }
+    ensures calls { RanOn D.calls D.makes begin_plan disk.old disk.new (is_done result) }
     ensures later { D.faults disk.old ≤ D.faults disk.new }
     ensures failed { result ≡ DiskDone.Failed → Rose (D.faults disk.old) (D.faults disk.new) }
     ensures steady { result ≡ DiskDone.Done → D.faults disk.new ≡ D.faults disk.old }

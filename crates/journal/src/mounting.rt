@@ -45,8 +45,8 @@ impl<D: Disk> Journal<D> {
         ensures not_a_journal { IfErr result (λ refused. IfSome (D.seen disk) (IsNoJournal refused.fault)) }
         ensures any_moment { IfOk result (λ p. LeavesOnly D.moment D.left disk p.0.disk (WhileMounting (D.left disk (D.moment disk)))) }
         ensures any_moment_err { IfErr result (λ refused. LeavesOnly D.moment D.left disk refused.disk (WhileMounting (D.left disk (D.moment disk)))) }
-        ensures calls { IfOk result (λ p. RanForFile mount_plan None (D.seen disk) (D.calls disk) (D.calls p.0.disk)) }
-        ensures calls_err { IfErr result (λ refused. RanForFile mount_plan (Some refused.fault) (D.seen disk) (D.calls disk) (D.calls refused.disk)) }
+        ensures calls { IfOk result (λ p. RanForFile D.seen D.calls D.makes mount_plan None disk p.0.disk) }
+        ensures calls_err { IfErr result (λ refused. RanForFile D.seen D.calls D.makes mount_plan (Some refused.fault) disk refused.disk) }
         ensures later { IfErr result (λ refused. D.faults disk ≤ D.faults refused.disk) }
         ensures failed { IfErr result (λ refused. refused.fault ≡ MountFault.DiskFailed → Rose (D.faults disk) (D.faults refused.disk)) }
         ensures steady { IfOk result (λ p. D.faults p.0.disk ≡ D.faults disk) }

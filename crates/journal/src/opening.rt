@@ -29,8 +29,8 @@ fn open_old<D: Disk>(
     ensures not_a_journal { IfErr result (λ fault. IsNoJournal fault file.now) }
     ensures closed { OnOk result ((image : List ℕ) → D.left disk.new (D.moment disk.new) image → IsClosed (records file.now) image) }
     ensures any_moment { LeavesOnly D.moment D.left disk.old disk.new (WhileMounting (D.left disk.old (D.moment disk.old))) }
-    ensures calls { OnOk result (RanOn (write_plan file.now) (D.calls disk.old) (D.calls disk.new) true) }
-    ensures fault { IfErr result (λ fault. RanUpTo (Some fault) (write_plan file.now) (D.calls disk.old) (D.calls disk.new)) }
+    ensures calls { OnOk result (RanOn D.calls D.makes (write_plan file.now) disk.old disk.new true) }
+    ensures fault { IfErr result (λ fault. RanUpTo D.calls D.makes (Some fault) (write_plan file.now) disk.old disk.new) }
     ensures later { D.faults disk.old ≤ D.faults disk.new }
     ensures failed { IsErrOf result MountFault.DiskFailed → Rose (D.faults disk.old) (D.faults disk.new) }
     ensures steady { (IsErrOf result MountFault.DiskFailed → ⊥) → D.faults disk.new ≡ D.faults disk.old }
@@ -57,8 +57,8 @@ pub fn open_file<D: Disk>(alloc: Global, disk: &mut D) -> Result<(Vec<Text>, u64
     ensures not_a_journal { IfErr result (λ fault. IfSome (D.seen disk.old) (IsNoJournal fault)) }
     ensures closed { IfOk result (λ p. (image : List ℕ) → D.left disk.new (D.moment disk.new) image → IsClosed p.0.items image) }
     ensures any_moment { LeavesOnly D.moment D.left disk.old disk.new (WhileMounting (D.left disk.old (D.moment disk.old))) }
-    ensures calls { OnOk result (RanForFile mount_plan None (D.seen disk.old) (D.calls disk.old) (D.calls disk.new)) }
-    ensures fault { IfErr result (λ fault. RanForFile mount_plan (Some fault) (D.seen disk.old) (D.calls disk.old) (D.calls disk.new)) }
+    ensures calls { OnOk result (RanForFile D.seen D.calls D.makes mount_plan None disk.old disk.new) }
+    ensures fault { IfErr result (λ fault. RanForFile D.seen D.calls D.makes mount_plan (Some fault) disk.old disk.new) }
     ensures later { D.faults disk.old ≤ D.faults disk.new }
     ensures failed { IsErrOf result MountFault.DiskFailed → Rose (D.faults disk.old) (D.faults disk.new) }
     ensures steady { (IsErrOf result MountFault.DiskFailed → ⊥) → D.faults disk.new ≡ D.faults disk.old }

@@ -18,7 +18,7 @@ fn measure<D: Disk>(disk: &mut D) -> DiskLen
     ensures seen { D.seen disk.new ≡ D.seen disk.old }
     ensures images { SyncedTo result (D.seen disk.old) (D.left disk.new (D.moment disk.new)) }
     ensures any_moment { LeavesOnly D.moment D.left disk.old disk.new (D.left disk.old (D.moment disk.old)) }
-    ensures calls { RanToLength result (D.calls disk.old) (D.calls disk.new) }
+    ensures calls { RanToLength D.calls D.makes result disk.old disk.new }
     ensures later { D.faults disk.old ≤ D.faults disk.new }
     ensures failed { result ≡ DiskLen.Failed → Rose (D.faults disk.old) (D.faults disk.new) }
     ensures steady { (result ≡ DiskLen.Failed → ⊥) → D.faults disk.new ≡ D.faults disk.old }
@@ -34,8 +34,8 @@ fn measure<D: Disk>(disk: &mut D) -> DiskLen
 fn read_whole<D: Disk>(alloc: Global, disk: &mut D, len: u64) -> Result<Vec<u8>, MountFault>
     requires { IfSome (D.seen disk.old) (λ told. len ≡ length told) }
     ensures ok { IfOk result (λ bytes. IsTold (D.seen disk.old) bytes.items × (length bytes.items ≡ len)) }
-    ensures fault { IfErr result (λ fault. IsReadFault fault × RanUpTo (Some fault) (whole_plan len) (D.calls disk.old) (D.calls disk.new)) }
-    ensures calls { OnOk result (RanOn (whole_plan len) (D.calls disk.old) (D.calls disk.new) true) }
+    ensures fault { IfErr result (λ fault. IsReadFault fault × RanUpTo D.calls D.makes (Some fault) (whole_plan len) disk.old disk.new) }
+    ensures calls { OnOk result (RanOn D.calls D.makes (whole_plan len) disk.old disk.new true) }
     ensures seen { D.seen disk.new ≡ D.seen disk.old }
     ensures any_moment { LeavesOnly D.moment D.left disk.old disk.new (D.left disk.old (D.moment disk.old)) }
     ensures later { D.faults disk.old ≤ D.faults disk.new }
@@ -54,8 +54,8 @@ fn read_whole<D: Disk>(alloc: Global, disk: &mut D, len: u64) -> Result<Vec<u8>,
 /// Syncs a file and reads it whole, where it is longer than 8 bytes.
 pub fn read_back<D: Disk>(alloc: Global, disk: &mut D) -> Result<Option<Vec<u8>>, MountFault>
     ensures images { IfOk result (λ found. MatchOption found ((image : List ℕ) → D.left disk.new (D.moment disk.new) image → length image ≤ 8) (λ bytes. Only bytes.items (D.left disk.new (D.moment disk.new)))) }
-    ensures found { IfOk result (λ found. (file : List ℕ) × IsTold (D.seen disk.old) file × IsFound (option_map (λ bytes. bytes.items) found) file × RanOn (read_plan (length file)) (D.calls disk.old) (D.calls disk.new) true) }
-    ensures fault { IfErr result (λ fault. IsReadFault fault × RanForFile (λ file. read_plan (length file)) (Some fault) (D.seen disk.old) (D.calls disk.old) (D.calls disk.new)) }
+    ensures found { IfOk result (λ found. (file : List ℕ) × IsTold (D.seen disk.old) file × IsFound (option_map (λ bytes. bytes.items) found) file × RanOn D.calls D.makes (read_plan (length file)) disk.old disk.new true) }
+    ensures fault { IfErr result (λ fault. IsReadFault fault × RanForFile D.seen D.calls D.makes (λ file. read_plan (length file)) (Some fault) disk.old disk.new) }
     ensures any_moment { LeavesOnly D.moment D.left disk.old disk.new (D.left disk.old (D.moment disk.old)) }
     ensures later { D.faults disk.old ≤ D.faults disk.new }
     ensures failed { IsErrOf result MountFault.DiskFailed → Rose (D.faults disk.old) (D.faults disk.new) }

@@ -42,7 +42,10 @@ returns-clause-any_moment g c =
 
 pub returns-clause-calls : goal.returns-clause-calls
 returns-clause-calls g c =
-    let header_done : c.write_through.result ≡ Done = search rules in
     let calls = g.D.Disk.calls in
-    let first : RanOn (through 0 header) (calls c.args.disk.now) (calls c.write_through.new.disk) true = subst (λ (a : DiskDone). RanOn (through 0 header) (calls c.args.disk.now) (calls c.write_through.new.disk) (is_done a)) header_done c.write_through.ensures.calls in
-    run_more (through 0 header) (through 8 (0 ∷ [])) (calls c.args.disk.now) (calls c.write_through.new.disk) (calls c.write_through-2.new.disk) (is_done c.write_through-2.result) first c.write_through-2.ensures.calls
+    let makes = g.D.Disk.makes in
+    let old = c.args.disk.now in
+    let mid = c.write_through.new.disk in
+    let header_done : c.write_through.result ≡ Done = search rules in
+    let first : RanOn calls makes (through 0 header) old mid true = subst (λ (a : DiskDone). RanOn calls makes (through 0 header) old mid (is_done a)) header_done c.write_through.ensures.calls in
+    run_more calls makes (through 0 header) (through 8 (0 ∷ [])) old mid c.write_through-2.new.disk (is_done c.write_through-2.result) first c.write_through-2.ensures.calls

@@ -16,8 +16,8 @@ returns-then-file-at-eq0-clause-done g c done image left =
 
 pub returns-then-file-at-eq0-clause-calls : goal.returns-then-file-at-eq0-clause-calls
 returns-then-file-at-eq0-clause-calls g c =
-    let calls = g.D.Disk.calls c.args.disk.now in
-    subst (λ (plan : List Step). RanOn plan calls calls true) (sym (closed_plan c.args.file.now c.args.end c.requires.end c.if-at-file.true c.if-file-at-eq0.true)) (ran_none calls)
+    let disk = c.args.disk.now in
+    subst (λ (plan : List Step). RanOn g.D.Disk.calls g.D.Disk.makes plan disk disk true) (sym (closed_plan c.args.file.now c.args.end c.requires.end c.if-at-file.true c.if-file-at-eq0.true)) (ran_none g.D.Disk.calls g.D.Disk.makes disk)
 
 in_file : (seen : Option (List ℕ)) (file : List ℕ) (end : ℕ) → end ≤ length file → ((f : List ℕ) → seen ≡ Some f → f ≡ file) → IfSome seen (λ f. end ≤ length f)
 in_file None file end le same = tt
@@ -50,4 +50,4 @@ pub returns-clause-calls : goal.returns-clause-calls
 returns-clause-calls g c =
     let file = c.args.file.now in
     let other : c.args.end < length file → slice_index file c.args.end ≢ 0 = search rules in
-    subst (λ (plan : List Step). RanOn plan (g.D.Disk.calls c.args.disk.now) (g.D.Disk.calls c.write_through.new.disk) (is_done c.write_through.result)) (open_plan_of file c.args.end c.requires.end other) c.write_through.ensures.calls
+    subst (λ (plan : List Step). RanOn g.D.Disk.calls g.D.Disk.makes plan c.args.disk.now c.write_through.new.disk (is_done c.write_through.result)) (open_plan_of file c.args.end c.requires.end other) c.write_through.ensures.calls

@@ -1,9 +1,8 @@
-use Rattle.std.proofs.Common.{length, rules, ◌≡◌, [], ◌∷◌, subst, true, false}
-use Rattle.disk_model.specs.Calls.{WriteCall, SyncCall, AddsCall}
-use Rattle.disk_model.specs.declared.answer.DiskDone.{DiskDone}
+use Rattle.std.proofs.Common.{length, rules, ◌≡◌, [], ◌∷◌, ap}
+use Rattle.disk_model.specs.Calls.{WriteCall}
 use Rattle.disk_model.specs.declared.answer.DiskDone.TheVariants.{Done, Failed}
 use Rattle.disk_model.proofs.Moments.{same_images, torn_images}
-use Rattle.journal.specs.Plans.{RanOn, WriteStep, SyncStep}
+use Rattle.journal.specs.Plans.{WriteStep, SyncStep}
 use Rattle.journal.specs.Putting.{is_done}
 use Rattle.journal.proofs.Planning.{run_more, run_short, one_done, one_failed, sync_ran}
 use Rattle.journal.proofs.put.write_through.Goals as goal
@@ -14,11 +13,12 @@ returns-then-eq-clause-any_moment g c =
 
 pub returns-then-eq-clause-calls : goal.returns-then-eq-clause-calls
 returns-then-eq-clause-calls g c =
-    let old = g.D.Disk.calls c.args.disk.now in
-    let mid = g.D.Disk.calls c.write_at.new.self in
+    let old = c.args.disk.now in
+    let new = c.write_at.new.self in
+    let step = WriteStep c.args.at c.args.bytes.now in
+    let called = c.write_at.ensures.called in
     let failed : c.write_at.result ≡ Failed = search rules in
-    let first = subst (λ (a : DiskDone). AddsCall old mid (WriteCall c.args.at c.args.bytes.now a)) failed c.write_at.ensures.called.call in
-    run_short (WriteStep c.args.at c.args.bytes.now ∷ []) (SyncStep ∷ []) old mid (one_failed (WriteStep c.args.at c.args.bytes.now) old mid first)
+    run_short g.D.Disk.calls g.D.Disk.makes (step ∷ []) (SyncStep ∷ []) old new (one_failed g.D.Disk.calls g.D.Disk.makes step _ old new (ap (WriteCall c.args.at c.args.bytes.now) failed) called.call called.change)
 
 pub returns-clause-any_moment : goal.returns-clause-any_moment
 returns-clause-any_moment g c =
@@ -28,9 +28,13 @@ returns-clause-any_moment g c =
 
 pub returns-clause-calls : goal.returns-clause-calls
 returns-clause-calls g c =
-    let old = g.D.Disk.calls c.args.disk.now in
-    let mid = g.D.Disk.calls c.write_at.new.self in
-    let new = g.D.Disk.calls c.sync.new.self in
+    let old = c.args.disk.now in
+    let mid = c.write_at.new.self in
+    let new = c.sync.new.self in
+    let step = WriteStep c.args.at c.args.bytes.now in
+    let called = c.write_at.ensures.called in
+    let synced = c.sync.ensures.called in
     let wrote : c.write_at.result ≡ Done = search rules in
-    let first = subst (λ (a : DiskDone). AddsCall old mid (WriteCall c.args.at c.args.bytes.now a)) wrote c.write_at.ensures.called.call in
-    run_more (WriteStep c.args.at c.args.bytes.now ∷ []) (SyncStep ∷ []) old mid new (is_done c.sync.result) (one_done (WriteStep c.args.at c.args.bytes.now) old mid first) (sync_ran c.sync.result mid new c.sync.ensures.called.call)
+    run_more g.D.Disk.calls g.D.Disk.makes (step ∷ []) (SyncStep ∷ []) old mid new (is_done c.sync.result)
+    (one_done g.D.Disk.calls g.D.Disk.makes step _ old mid (ap (WriteCall c.args.at c.args.bytes.now) wrote) called.call called.change)
+    (sync_ran g.D.Disk.calls g.D.Disk.makes c.sync.result mid new synced.call synced.change)

@@ -17,23 +17,27 @@ on_any (Err e) P p = p
 pub returns-in_err-settle-clause-doubt : goal.returns-in_err-settle-clause-doubt
 returns-in_err-settle-clause-doubt g c =
     let calls = g.D.Disk.calls in
+    let makes = g.D.Disk.makes in
     let old = c.args.self.now in
     let failed : is_ok c.settle.result ≡ false = search rules in
-    let ran : RanOn (settle_plan (doubt_of old) old.end) (calls old.disk) (calls c.settle.new.self.disk) false = rw failed at c.settle.ensures.calls in
-    on_any c.from_residual.result _ (inl (c.in_err-settle.ensures.err, (calls old.disk, ran_none (calls old.disk), ran)))
+    let ran : RanOn calls makes (settle_plan (doubt_of old) old.end) old.disk c.settle.new.self.disk false = rw failed at c.settle.ensures.calls in
+    on_any c.from_residual.result _ (inl (c.in_err-settle.ensures.err, (old.disk, ran_none calls makes old.disk, ran)))
 
 pub returns-then-eq-2-clause-doubt : goal.returns-then-eq-2-clause-doubt
 returns-then-eq-2-clause-doubt g c =
     let calls = g.D.Disk.calls in
+    let makes = g.D.Disk.makes in
     let old = c.args.self.now in
     let body = c.args.body.now in
+    let settled = c.settle.new.self.disk in
+    let staging = c.stage.new.self.disk in
     let staged : c.stage.result ≡ Done = search rules in
     let failed : c.open_gate.result ≡ Failed = search rules in
     let end_is = c.stage.ensures.rest.0 ∙ c.settle.ensures.rest.0 in
-    let first : RanOn (settle_plan (doubt_of old) old.end) (calls old.disk) (calls c.settle.new.self.disk) true = c.in_ok-settle.ensures.calls in
-    let second : RanOn (stage_plan old.end body) (calls c.settle.new.self.disk) (calls c.stage.new.self.disk) true = rw staged at (rw c.settle.ensures.rest.0 at c.stage.ensures.calls) in
-    let third : RanOn (open_plan old.end) (calls c.stage.new.self.disk) (calls c.open_gate.new.self.disk) false = rw failed at (rw end_is at c.open_gate.ensures.calls) in
-    inr (inr ((c.open_gate.ensures.failure failed).1, (calls c.stage.new.self.disk, run_more (settle_plan (doubt_of old) old.end) (stage_plan old.end body) (calls old.disk) (calls c.settle.new.self.disk) (calls c.stage.new.self.disk) true first second, third)))
+    let first : RanOn calls makes (settle_plan (doubt_of old) old.end) old.disk settled true = c.in_ok-settle.ensures.calls in
+    let second : RanOn calls makes (stage_plan old.end body) settled staging true = rw staged at (rw c.settle.ensures.rest.0 at c.stage.ensures.calls) in
+    let third : RanOn calls makes (open_plan old.end) staging c.open_gate.new.self.disk false = rw failed at (rw end_is at c.open_gate.ensures.calls) in
+    inr (inr ((c.open_gate.ensures.failure failed).1, (staging, run_more calls makes (settle_plan (doubt_of old) old.end) (stage_plan old.end body) old.disk settled staging true first second, third)))
 
 pub returns-then-eq-2-clause-any_moment : goal.returns-then-eq-2-clause-any_moment
 returns-then-eq-2-clause-any_moment g c =
@@ -49,13 +53,17 @@ returns-then-eq-2-clause-any_moment g c =
 pub returns-clause-calls : goal.returns-clause-calls
 returns-clause-calls g c =
     let calls = g.D.Disk.calls in
+    let makes = g.D.Disk.makes in
     let old = c.args.self.now in
     let body = c.args.body.now in
+    let settled = c.settle.new.self.disk in
+    let staging = c.stage.new.self.disk in
+    let new = c.open_gate.new.self.disk in
     let staged : c.stage.result ≡ Done = search rules in
     let opened : c.open_gate.result ≡ Done = search rules in
     let end_is = c.stage.ensures.rest.0 ∙ c.settle.ensures.rest.0 in
-    let first : RanOn (settle_plan (doubt_of old) old.end) (calls old.disk) (calls c.settle.new.self.disk) true = c.in_ok-settle.ensures.calls in
-    let second : RanOn (stage_plan old.end body) (calls c.settle.new.self.disk) (calls c.stage.new.self.disk) true = rw staged at (rw c.settle.ensures.rest.0 at c.stage.ensures.calls) in
-    let third : RanOn (open_plan old.end) (calls c.stage.new.self.disk) (calls c.open_gate.new.self.disk) true = rw opened at (rw end_is at c.open_gate.ensures.calls) in
-    run_more (settle_plan (doubt_of old) old.end) (stage_plan old.end body ++ open_plan old.end) (calls old.disk) (calls c.settle.new.self.disk) (calls c.open_gate.new.self.disk) true first
-    (run_more (stage_plan old.end body) (open_plan old.end) (calls c.settle.new.self.disk) (calls c.stage.new.self.disk) (calls c.open_gate.new.self.disk) true second third)
+    let first : RanOn calls makes (settle_plan (doubt_of old) old.end) old.disk settled true = c.in_ok-settle.ensures.calls in
+    let second : RanOn calls makes (stage_plan old.end body) settled staging true = rw staged at (rw c.settle.ensures.rest.0 at c.stage.ensures.calls) in
+    let third : RanOn calls makes (open_plan old.end) staging new true = rw opened at (rw end_is at c.open_gate.ensures.calls) in
+    run_more calls makes (settle_plan (doubt_of old) old.end) (stage_plan old.end body ++ open_plan old.end) old.disk settled new true first
+    (run_more calls makes (stage_plan old.end body) (open_plan old.end) settled staging new true second third)
