@@ -1,5 +1,5 @@
 //! A point that is kept.
-ghost use Rattle.std.specs.Prelude.{◌≡◌, length, map, zip};
+ghost use Rattle.std.specs.Prelude.{◌≡◌, ◌<◌, ◌≤◌, ◌^◌, [], ◌∷◌, All, length, map, zip};
 ghost use Rattle.std.specs.List.{enumerate_from};
 ghost use Rattle.model_data.specs.Lawful.{IsLawful};
 ghost use Rattle.solve_defs.specs.Bounds.{effective_bounds};
@@ -29,6 +29,8 @@ pub(crate) fn point_looks(m: &Model, bounds: &[Bounds], point: &Point) -> Result
 }
 
 fn rows(rows: &[Row], xs: &[Frac]) -> Result<(), Failure>
+    requires few { length rows.now < 2 ^ 32 }
+    requires places { All (λ row. All (λ t. t.var < length xs.now) row.terms) rows.now }
     ensures { verdict_by result ≡ verdict_of (map (point_row xs.now) (enumerate_from 1 rows.now)) }
 {
     for (place, row) in rows.iter().enumerate() {
@@ -38,6 +40,7 @@ fn rows(rows: &[Row], xs: &[Frac]) -> Result<(), Failure>
 }
 
 fn row_look(number: u32, row: &Row, xs: &[Frac]) -> Result<(), Failure>
+    requires { All (λ t. t.var < length xs.now) row.now.terms }
     ensures { verdict_by result ≡ verdict_of (point_row xs.now (number, row.now) ∷ []) }
 {
     let sum = row_sum(row.terms.as_slice(), xs)?;
@@ -45,6 +48,8 @@ fn row_look(number: u32, row: &Row, xs: &[Frac]) -> Result<(), Failure>
 }
 
 fn each_bound(bounds: &[Bounds], xs: &[Frac]) -> Result<(), Failure>
+    requires few { length xs.now < 2 ^ 32 }
+    requires sizes { length bounds.now ≡ length xs.now }
     ensures { verdict_by result ≡ verdict_of (map point_bound (enumerate_from 1 (zip bounds.now xs.now))) }
 {
     for (place, x) in xs.iter().enumerate() {
@@ -54,6 +59,8 @@ fn each_bound(bounds: &[Bounds], xs: &[Frac]) -> Result<(), Failure>
 }
 
 fn integers(vars: &[Var], xs: &[Frac]) -> Result<(), Failure>
+    requires few { length xs.now < 2 ^ 32 }
+    requires sizes { length vars.now ≡ length xs.now }
     ensures { verdict_by result ≡ verdict_of (map point_integer (enumerate_from 1 (zip vars.now xs.now))) }
 {
     for (place, x) in xs.iter().enumerate() {
@@ -66,6 +73,7 @@ fn integers(vars: &[Var], xs: &[Frac]) -> Result<(), Failure>
 }
 
 fn value(m: &Model, point: &Point) -> Result<(), Failure>
+    requires { length point.now.xs ≡ length m.now.vars }
     ensures { verdict_by result ≡ verdict_of (point_value m.now point.now ∷ []) }
 {
     let sum = objective_sum(m.vars.as_slice(), &m.constant, point.xs.as_slice())?;

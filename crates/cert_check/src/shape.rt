@@ -3,6 +3,8 @@ ghost use Rattle.std.specs.Prelude.{◌≡◌, List};
 ghost use Rattle.std.specs.List.{list_all, list_any};
 ghost use Rattle.solve_defs.specs.Certificates.{are_weights_for, are_whole, has_shape, is_bound, is_certificate_for, is_integer_number, is_node_for, is_number_to, is_point_for};
 ghost use Rattle.solve_defs.specs.Values.{has_integers};
+ghost use Rattle.model_data.specs.declared.solution.Cert.TheVariants.{Ray, Tree};
+ghost use Rattle.cert_check.specs.Shapes.{goes_with_tree};
 
 use crate::values::is_integer;
 use base_names::Seq;
@@ -49,20 +51,27 @@ fn is_ray_for(m: &Model, o: &Outcome, point: &Seq<Frac>, ray: &Seq<Frac>) -> boo
 fn is_tree_for(m: &Model, o: &Outcome, nodes: &[CertNode]) -> bool
     ensures { result ≡ is_certificate_for m.now o.now (Tree nodes.now) }
 {
-    are_whole(nodes) && nodes.iter().all(|node| is_node_for(m, node)) && has_tree_status(o, nodes)
+    are_whole(nodes) && are_nodes_for(m, nodes) && goes_with_tree(o, nodes)
 }
 
-fn has_tree_status(o: &Outcome, nodes: &[CertNode]) -> bool
-    ensures { result ≡ has_tree_status o.now nodes.now }
+fn goes_with_tree(o: &Outcome, nodes: &[CertNode]) -> bool
+    ensures { result ≡ goes_with_tree o.now nodes.now }
 {
     (o.status == OPTIMAL && o.point.is_some())
-        || (o.status == INFEASIBLE && o.point.is_none() && !nodes.iter().any(|node| is_bound(node)))
+        || (o.status == INFEASIBLE && o.point.is_none() && !has_bound(nodes))
 }
 
 fn has_integers(m: &Model) -> bool
     ensures { result ≡ has_integers m.now }
 {
     m.vars.as_slice().iter().any(|var| is_integer(var.kind))
+}
+
+/// Whether some leaf is bounded by a value.
+fn has_bound(nodes: &[CertNode]) -> bool
+    ensures { result ≡ list_any is_bound nodes.now }
+{
+    nodes.iter().any(|node| is_bound(node))
 }
 
 fn is_bound(node: &CertNode) -> bool
@@ -89,6 +98,12 @@ fn are_whole(nodes: &[CertNode]) -> bool
         };
     }
     missing == 0
+}
+
+fn are_nodes_for(m: &Model, nodes: &[CertNode]) -> bool
+    ensures { result ≡ list_all (is_node_for m.now) nodes.now }
+{
+    nodes.iter().all(|node| is_node_for(m, node))
 }
 
 /// Whether the numbers of a node are those of integer variables, or of rows and bounds, of the model.

@@ -1,11 +1,12 @@
 //! Values compared, and values at a point.
-ghost use Rattle.std.specs.Prelude.{◌≡◌, ◌<◌, All, length, map, zip};
+ghost use Rattle.std.specs.Prelude.{◌≡◌, ◌<◌, All, length};
 ghost use Rattle.frac128.specs.Checked.{less_product, plus_product};
 ghost use Rattle.frac128.specs.Fraction.{zero_value};
 ghost use Rattle.model_data.specs.Size.{is_integer};
 ghost use Rattle.solve_defs.specs.Certificates.{compares, is_negative_or_zero, is_positive_or_zero, row_steps};
-ghost use Rattle.solve_defs.specs.Looks.{formed, plus_times};
+ghost use Rattle.solve_defs.specs.Looks.{formed};
 ghost use Rattle.solve_defs.specs.Values.{is_at_most, is_below, is_same, is_whole, turned};
+ghost use Rattle.cert_check.specs.Sums.{terms_at};
 
 use frac128::{Frac, Wide};
 use model_data::{Direction, Sense, Term, Var, VarKind};
@@ -25,19 +26,21 @@ pub(crate) fn is_below(x: &Frac, y: &Frac) -> bool
 pub(crate) fn is_same(x: &Frac, y: &Frac) -> bool
     ensures { result ≡ is_same x.now y.now }
 {
-    x.cmp(y).is_eq()
+    x.kept();
+    y.kept();
+    x == y
 }
 
 pub(crate) fn is_negative_or_zero(x: &Frac) -> bool
     ensures { result ≡ is_negative_or_zero x.now }
 {
-    is_at_most(x, &Frac::zero())
+    x.num() <= 0
 }
 
 pub(crate) fn is_positive_or_zero(x: &Frac) -> bool
     ensures { result ≡ is_positive_or_zero x.now }
 {
-    is_at_most(&Frac::zero(), x)
+    x.num() >= 0
 }
 
 pub(crate) fn is_whole(x: &Frac) -> bool
@@ -105,7 +108,7 @@ pub(crate) fn row_sum(terms: &[Term], xs: &[Frac]) -> Result<Frac, Wide>
 /// What the objective's terms come to at these values, behind a constant.
 pub(crate) fn objective_sum(vars: &[Var], constant: &Frac, xs: &[Frac]) -> Result<Frac, Wide>
     requires { length xs.now ≡ length vars.now }
-    ensures { result ≡ formed constant.now (map (λ p. plus_times p.0 p.1) (zip (map (λ v. v.obj) vars.now) xs.now)) }
+    ensures { result ≡ formed constant.now (terms_at vars.now xs.now) }
 {
     let mut sum = *constant;
     for (place, var) in vars.iter().enumerate() {
