@@ -1,3 +1,4 @@
 pub mod Fractions
 pub mod Numbers
 pub mod Verdicts
+pub mod RayRows
