@@ -1,4 +1,7 @@
 //! What a leaf claims of its points.
+ghost use Rattle.std.specs.Prelude.{◌≡◌};
+ghost use Rattle.cert_check.specs.Leaves.{claim_by, coef_by};
+
 use crate::values::{is_at_most, is_below, turned};
 use frac128::Frac;
 use model_data::{Model, Var};
@@ -13,7 +16,9 @@ pub(crate) enum Claim {
 
 impl Claim {
     /// What the coefficient of a variable has to be.
-    pub(crate) fn coef(&self, m: &Model, var: &Var) -> Frac {
+    pub(crate) fn coef(&self, m: &Model, var: &Var) -> Frac
+        ensures { result ≡ coef_by m.now self.now var.now }
+    {
         match self {
             Claim::NoneBetter(_) => turned(m.direction, &var.obj),
             Claim::NoPoint => Frac::zero(),
@@ -21,7 +26,9 @@ impl Claim {
     }
 
     /// What the side begins with.
-    pub(crate) fn constant(&self, m: &Model) -> Frac {
+    pub(crate) fn constant(&self, m: &Model) -> Frac
+        ensures { result ≡ (claim_by m.now self.now).constant }
+    {
         match self {
             Claim::NoneBetter(_) => turned(m.direction, &m.constant),
             Claim::NoPoint => Frac::zero(),
@@ -29,7 +36,9 @@ impl Claim {
     }
 
     /// Whether the side is low enough.
-    pub(crate) fn is_shown_by(&self, m: &Model, side: &Frac) -> bool {
+    pub(crate) fn is_shown_by(&self, m: &Model, side: &Frac) -> bool
+        ensures { result ≡ (claim_by m.now self.now).holds side.now }
+    {
         match self {
             Claim::NoneBetter(value) => is_at_most(side, &turned(m.direction, value)),
             Claim::NoPoint => is_below(side, &Frac::zero()),
