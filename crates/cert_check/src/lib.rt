@@ -6,7 +6,21 @@
 //! `specs/Failures.antt`, what they say of a model in `Points` of `solve_defs`.
 #![tactic(auto)]
 
+mod bounds;
+mod cases;
 mod checking;
+mod claim;
+mod failure;
+mod items;
+mod leaf;
+mod point;
+mod ray;
+mod shape;
+mod side;
+mod signs;
+mod sums;
+mod tree;
+mod values;
 mod verdict_laws;
 
 pub use checking::check;

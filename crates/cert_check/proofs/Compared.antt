@@ -1,0 +1,74 @@
+-- Sums that are formed side by side are held against the coefficients as they are where each is formed by itself.
+use Rattle.std.proofs.Common.{◌≡◌, ◌∙◌, refl, sym, ap, subst, ℕ, zero, suc, ◌+◌, ◌<◌, List, [], ◌∷◌, length, map, Result, Ok, Err, arith}
+use Rattle.std.proofs.lemmas.List.{length-map}
+use Rattle.frac128.specs.Fraction.{Fraction, zero_value}
+use Rattle.model_data.specs.Lawful.{IsLawful}
+use Rattle.model_data.specs.declared.model.Model.{Model}
+use Rattle.model_data.specs.declared.model.Var.{Var}
+use Rattle.model_data.specs.declared.solution.Weights.{Weights}
+use Rattle.solve_defs.specs.Certificates.{sum_steps, sums_from}
+use Rattle.solve_defs.specs.Looks.{Look, Step, after_look, formed, verdict_of}
+use Rattle.solve_defs.specs.Values.{is_same}
+use Rattle.solve_defs.specs.declared.verdict.Place.TheVariants.{LeafSum}
+use Rattle.solve_defs.specs.declared.verdict.Verdict.{Verdict}
+use Rattle.cert_check.specs.Leaves.{Fit, claim_by, coef_by, compared, sum_look}
+use Rattle.cert_check.specs.Sums.{Sum, leaf_sums, sum_at}
+use Rattle.cert_check.specs.declared.claim.Claim.{Claim as Claimed}
+use Rattle.cert_check.specs.declared.claim.Claim.TheVariants.{NoPoint, NoneBetter}
+use Rattle.cert_check.proofs.SumsFormed.{leaf_sums-at, length-leaf_sums}
+
+-- how the sum was formed doesn't matter
+same_look : (leaf place : ℕ) (coef : Fraction) (steps : List Step) (sum : Sum) (later : Verdict)
+    → after_look (sum_look leaf place coef) sum later ≡ after_look (record (sum_look leaf place coef) { steps = steps }) sum later
+same_look leaf place coef steps (Ok total) later = refl
+same_look leaf place coef steps (Err wide) later = refl
+
+compared_is : (m : Model) (leaf : ℕ) (weights : Weights) (place : ℕ) (sums : List Sum) (coefs : List Fraction) → length sums ≡ length coefs
+    → ((j : ℕ) → j < length sums → sum_at sums j ≡ formed zero_value (sum_steps m weights (place + j) (suc (place + j))))
+    → compared leaf place sums coefs ≡ verdict_of (sums_from m leaf weights place coefs)
+compared_is m leaf weights place [] [] sizes at = refl
+compared_is m leaf weights place [] (coef ∷ coefs) sizes at = absurd (omega (arith, sizes))
+compared_is m leaf weights place (sum ∷ sums) [] sizes at = absurd (omega (arith, sizes))
+compared_is m leaf weights place (sum ∷ sums) (coef ∷ coefs) sizes at =
+    ap (after_look (sum_look leaf place coef) sum) (compared_is m leaf weights (suc place) sums coefs (omega (arith, sizes)) behind)
+    ∙ same_look leaf place coef steps sum later
+    ∙ ap (λ (s : Sum). after_look (record (sum_look leaf place coef) { steps = steps }) s later) own
+  where
+    steps : List Step
+    steps = sum_steps m weights place (suc place)
+
+    later : Verdict
+    later = verdict_of (sums_from m leaf weights (suc place) coefs)
+
+    at_place : (k : ℕ) → k ≡ place → formed zero_value (sum_steps m weights k (suc k)) ≡ formed zero_value steps
+    at_place k is = ap (λ (i : ℕ). formed zero_value (sum_steps m weights i (suc i))) is
+
+    own : sum ≡ formed zero_value steps
+    own = at 0 (omega arith) ∙ at_place (place + 0) (omega arith)
+
+    moved : (j : ℕ) → place + suc j ≡ suc place + j
+    moved j = omega arith
+
+    behind : (j : ℕ) → j < length sums → sum_at sums j ≡ formed zero_value (sum_steps m weights (suc place + j) (suc (suc place + j)))
+    behind j within = at (suc j) (omega (arith, within)) ∙ ap (λ (i : ℕ). formed zero_value (sum_steps m weights i (suc i))) (moved j)
+
+coefs_are : (m : Model) (claim : Claimed) → map (coef_by m claim) m.vars ≡ (claim_by m claim).coefs
+coefs_are m (NoneBetter value) = refl
+coefs_are m NoPoint = refl
+
+pub leaf_compared : (m : Model) (leaf : ℕ) (weights : Weights) (claim : Claimed) → IsLawful m → Fit m weights
+    → compared leaf 0 (leaf_sums m weights) (map (coef_by m claim) m.vars) ≡ verdict_of (sums_from m leaf weights 0 (claim_by m claim).coefs)
+leaf_compared m leaf weights claim lawful fit =
+    compared_is m leaf weights 0 (leaf_sums m weights) (map (coef_by m claim) m.vars) sizes each
+    ∙ ap (λ (cs : List Fraction). verdict_of (sums_from m leaf weights 0 cs)) (coefs_are m claim)
+  where
+    sizes : length (leaf_sums m weights) ≡ length (map (coef_by m claim) m.vars)
+    sizes = length-leaf_sums m weights ∙ sym (length-map (coef_by m claim) m.vars)
+
+    from_zero : (j : ℕ) → j ≡ 0 + j
+    from_zero j = omega arith
+
+    each : (j : ℕ) → j < length (leaf_sums m weights) → sum_at (leaf_sums m weights) j ≡ formed zero_value (sum_steps m weights (0 + j) (suc (0 + j)))
+    each j within =
+        leaf_sums-at m weights j lawful fit (subst (λ n. j < n) (length-leaf_sums m weights) within)
+        ∙ ap (λ (i : ℕ). formed zero_value (sum_steps m weights i (suc i))) (from_zero j)

@@ -1,0 +1,15 @@
+pub mod Fractions
+pub mod Numbers
+pub mod Verdicts
+pub mod RayRows
+pub mod SumSteps
+pub mod SumsFormed
+pub mod Compared
+pub mod Operations
+pub mod FirstFailure
+pub mod CutBounds
+pub mod Stacks
+pub mod Wholes
+pub mod Fitting
+pub mod Walked
+pub mod FormedSides

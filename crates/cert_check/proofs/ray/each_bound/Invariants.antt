@@ -1,0 +1,10 @@
+use Rattle.std.proofs.Common.{◌≡◌, ◌+◌, drop, map, zip}
+use Rattle.std.specs.List.{enumerate_from}
+use Rattle.solve_defs.specs.Certificates.{ray_bound}
+use Rattle.solve_defs.specs.Looks.{verdict_of}
+use Rattle.cert_check.proofs.ray.each_bound.Given as goal
+
+abbrev pub invariant-loop-place : goal.invariant-loop-place
+invariant-loop-place l =
+    verdict_of (map ray_bound (enumerate_from (l.place + 1) (zip (drop l.place l.bounds) (zip (drop l.place l.point) (drop l.place l.ray)))))
+    ≡ verdict_of (map ray_bound (enumerate_from 1 (zip l.bounds (zip l.point l.ray))))
