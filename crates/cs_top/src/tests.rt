@@ -2,7 +2,7 @@
 
 use crate::run;
 use base_io::{Got, MemSink, MemSource, Source};
-use base_names::NoMemory;
+use base_names::{NoMemory, append};
 use disk_model::MemDisk;
 use std::alloc::Global;
 use std::process::Abort;
@@ -233,7 +233,8 @@ fn refuses_words(rt: HostRuntime) -> Result<(), Fail> {
         &["cs_main", "solve", "ada"],
         &["cs_main", "solve", "--nodes", "-1"],
         &["cs_main", "solve", "--nodes", "1000000001"],
-        &["cs_main", "verify"],
+        &["cs_main", "verify", "ada"],
+        &["cs_main", "replay"],
     ];
     for words in rows {
         let mut source = MemSource::new(b"BYE\n".to_vec(rt.alloc())?, Vec::new(rt.alloc()));
@@ -351,6 +352,95 @@ fn tells_why_a_text_is_not_solved(rt: HostRuntime) -> Result<(), Fail> {
     assert_eq!(rt; ran.status, 7);
     assert_eq!(rt; ran.output.as_slice(), b"".as_slice());
     assert_eq!(rt; ran.errors.as_slice(), b"input too long\n".as_slice());
+    Ok(())
+}
+
+/// Runs `verify` over a model's text with a certificate's, where these writes fail.
+fn verified(
+    alloc: Global,
+    model: &[u8],
+    certificate: &[u8],
+    failing: &[u64],
+) -> Result<Ran, NoMemory> {
+    let mut input = Vec::new(alloc);
+    append(&mut input, format_args!("MODEL {}\n", model.len()))?;
+    input.extend_from_slice(model)?;
+    input.extend_from_slice(certificate)?;
+    run_over(
+        alloc,
+        &["cs_main", "verify", "ada"],
+        &["cs_main", "replay"],
+        &mut MemSource::new(input, Vec::new(alloc)),
+        failing,
+    )
+}
+
+/// A model without a point, whose certificate has one leaf.
+const POINTLESS: &[u8] = b"Minimize\n x\nSubject To\n x + y >= 3\nBounds\n x <= 1\n y <= 1\nEnd\n";
+
+#[test]
+fn tells_whether_a_certificate_is_valid(rt: HostRuntime) -> Result<(), Fail> {
+    let rows: &[(&[u8], u8, &[u8], &[u8])] = &[
+        (
+            b"FARKAS\nR 1 -1/3\nU 1 1/3\nU 2 1/3\nEND\n",
+            0,
+            b"VALID\n",
+            b"",
+        ),
+        (
+            b"FARKAS\nR 1 -1/3\nU 1 1/3\nU 2 1/4\nEND\n",
+            8,
+            b"INVALID LEAF 1 SUM 2\n",
+            b"certificate invalid\n",
+        ),
+        (
+            b"FARKAS\nR 1 1/3\nEND\n",
+            8,
+            b"INVALID LEAF 1 SIGN R 1\n",
+            b"certificate invalid\n",
+        ),
+        (b"FARKUS\nR 1 -1/3\nEND\n", 9, b"", b"line 3 refused\n"),
+    ];
+    for (lines, status, output, errors) in rows {
+        let mut certificate = b"OUTCOME 3 3 1 60\n".to_vec(rt.alloc())?;
+        certificate.extend_from_slice(lines)?;
+        let ran = verified(rt.alloc(), POINTLESS, certificate.as_slice(), &[])?;
+        assert_eq!(rt; ran.status, *status);
+        assert_eq!(rt; ran.output.as_slice(), *output);
+        assert_eq!(rt; ran.errors.as_slice(), *errors);
+    }
+    Ok(())
+}
+
+#[test]
+fn tells_an_operation_that_does_not_fit(rt: HostRuntime) -> Result<(), Fail> {
+    let ran = verified(
+        rt.alloc(),
+        b"Maximize\n x + y\nSubject To\n 1e30 x + y <= 1\n x + 1e30 y <= 1\nEnd\n",
+        b"OUTCOME 7 0 0 0\nVALUE 0\nX 1000000000000000000000000000000\nX 0\nNONE\nEND\n",
+        &[],
+    )?;
+    assert_eq!(rt; ran.status, 11);
+    assert_eq!(rt; ran.output.as_slice(), b"".as_slice());
+    assert_eq!(rt;
+        ran.errors.as_slice(),
+        b"certificate too wide: MUL 1000000000000000000000000000000 1000000000000000000000000000000\n".as_slice()
+    );
+    Ok(())
+}
+
+#[test]
+fn tells_why_an_input_is_not_checked(rt: HostRuntime) -> Result<(), Fail> {
+    let ran = verified(rt.alloc(), b"Minimize\n", b"OUTCOME\n", &[])?;
+    assert_eq!(rt; ran.status, 1);
+    assert_eq!(rt;
+        ran.errors.as_slice(),
+        b"model: line 2 column 1 NOSECTION\n".as_slice()
+    );
+    let ran = verified(rt.alloc(), POINTLESS, b"OUTCOME 8 0 0 0\nNONE\nEND\n", &[1])?;
+    assert_eq!(rt; ran.status, 4);
+    assert_eq!(rt; ran.output.as_slice(), b"".as_slice());
+    assert_eq!(rt; ran.errors.as_slice(), b"write fault\n".as_slice());
     Ok(())
 }
 
