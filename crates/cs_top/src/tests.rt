@@ -255,10 +255,18 @@ fn solved(alloc: Global, words: &[&str], text: &[u8]) -> Result<Ran, NoMemory> {
     run_over(alloc, all.as_slice(), &mut source, &[])
 }
 
+/// Tells the limits of a text.
+fn limited(alloc: Global, text: &[u8]) -> Result<Ran, NoMemory> {
+    let mut source = MemSource::new(Vec::from_slice(alloc, text)?, Vec::new(alloc));
+    run_over(alloc, &["cs_main", "limits"], &mut source, &[])
+}
+
 const TWO_ROWS: &[u8] = b"Maximize\n x + y\nSubject To\n 2 x + y <= 4\n x + 3 y <= 6\nEnd\n";
 
 const WHOLE_TWO_ROWS: &[u8] =
     b"Maximize\n x + y\nSubject To\n 2 x + y <= 4\n x + 3 y <= 6\nGenerals\n x y\nEnd\n";
+
+const WHOLE_HALF: &[u8] = b"Minimize\n x\nSubject To\n 2 x = 1\nBinaries\n x\nEnd\n";
 
 const BEALE: &[u8] = b"Minimize
  -0.75 x1 + 20 x2 - 0.5 x3 + 6 x4
@@ -281,7 +289,7 @@ fn solves_models(rt: HostRuntime) -> Result<(), Fail> {
             b"OUTCOME 2 9 5 102\nVALUE 2\nX 1\nX 1\nSPLIT 1 1\nSPLIT 2 1\nBOUND\nU 1 1\nU 2 1\nBOUND\nR 2 1\nL 2 2\nBOUND\nR 1 1\nL 1 1\nEND\n",
         ),
         (
-            b"Minimize\n x\nSubject To\n 2 x = 1\nBinaries\n x\nEnd\n",
+            WHOLE_HALF,
             b"OUTCOME 3 5 3 75\nSPLIT 1 0\nFARKAS\nR 1 -1/3\nU 1 2/3\nFARKAS\nR 1 1\nL 1 2\nEND\n",
         ),
         (
@@ -331,6 +339,44 @@ fn solves_within_limits(rt: HostRuntime) -> Result<(), Fail> {
             certificate,
         );
     }
+    Ok(())
+}
+
+#[test]
+fn tells_limits(rt: HostRuntime) -> Result<(), Fail> {
+    let rows: &[(&[u8], &[u8])] = &[
+        (TWO_ROWS, b"ITERATIONS 20\nNODES 1\n"),
+        (WHOLE_TWO_ROWS, b"ITERATIONS OPEN\nNODES OPEN\n"),
+        (WHOLE_HALF, b"ITERATIONS 60\nNODES 3\n"),
+        (
+            b"Max x st Bounds x free Binaries x end",
+            b"ITERATIONS 18\nNODES 3\n",
+        ),
+        // Up to the greatest number of nodes that a solve may be limited to.
+        (
+            b"Max x st Bounds x <= 499999999 Generals x end",
+            b"ITERATIONS OVER\nNODES 999999999\n",
+        ),
+        (
+            b"Max x st Bounds x <= 500000000 Generals x end",
+            b"ITERATIONS OVER\nNODES OVER\n",
+        ),
+    ];
+    for (text, lines) in rows {
+        assert_answers(&rt, &limited(rt.alloc(), text)?, lines);
+    }
+    Ok(())
+}
+
+#[test]
+fn tells_why_a_text_has_no_limits(rt: HostRuntime) -> Result<(), Fail> {
+    let ran = limited(rt.alloc(), b"Max x+y st c: 2x <= 1 end")?;
+    assert_eq!(rt; ran.status, 1);
+    assert_eq!(rt; ran.output.as_slice(), b"".as_slice());
+    assert_eq!(rt;
+        ran.errors.as_slice(),
+        b"model: line 1 column 15 NUMBER\n".as_slice()
+    );
     Ok(())
 }
 
