@@ -20,13 +20,18 @@ use Rattle.model_command.specs.Says.{Relation, Says}
 use Rattle.model_command.specs.declared.command.ModelEnd.{ModelEnd}
 use Rattle.model_command.specs.declared.command.ModelEnd.TheVariants as model
 use Rattle.solve_command.specs.Solve.{IsSolved}
+use Rattle.whole_input.specs.Whole.{Takes}
 use Rattle.limits_command.specs.Told.{TellsLimits}
+use Rattle.frac128.specs.declared.operations.Wide.{Wide}
+use Rattle.verify_command.specs.Verify.{VerifySays}
+use Rattle.verify_command.specs.declared.command.VerifyEnd.{VerifyEnd}
+use Rattle.verify_command.specs.declared.command.VerifyEnd.TheVariants as verify
 use Rattle.cs_top.specs.OwnDesk.{AreOwn}
-use Rattle.cs_top.specs.Run.{IsReportOf, IsSessionStatus, RunSays, RunsAs, ModelRuns, SessionRuns, SessionSays, code_of, model_status, seat_of, session_status}
+use Rattle.cs_top.specs.Run.{IsReportOf, IsSessionStatus, RunSays, RunsAs, ModelRuns, SessionRuns, SessionSays, VerifyRuns, code_of, model_status, seat_of, session_status, verify_status}
 use Rattle.cs_top.specs.declared.status.Status.{Status}
-use Rattle.cs_top.specs.declared.status.Status.TheVariants.{NoModel, Done as Done', WordsRefused as WordsRefused', ReadFault as ReadFault', WriteFault as WriteFault', NoMemory as NoMemory', TooLong as TooLong'}
+use Rattle.cs_top.specs.declared.status.Status.TheVariants.{NoModel, Done as Done', WordsRefused as WordsRefused', ReadFault as ReadFault', WriteFault as WriteFault', NoMemory as NoMemory', TooLong as TooLong', Invalid, Refused, TooWide}
 use Rattle.cs_top.specs.declared.task.Task.{Task}
-use Rattle.cs_top.specs.declared.task.Task.TheVariants.{Session, Solve, Limits}
+use Rattle.cs_top.specs.declared.task.Task.TheVariants.{Session, Solve, Limits, Verify}
 
 pub is_session_status : (end : End) → IsSessionStatus (session_status end)
 is_session_status Bye = tt
@@ -147,6 +152,19 @@ model_runs is_answer model.WriteFault left left' contents contents' says = says
 model_runs is_answer model.NoMemory left left' contents contents' says = says
 model_runs is_answer model.TooLong left left' contents contents' says = says
 
+-- ---- a check
+
+pub verify_runs : (end : VerifyEnd) (left left' contents contents' : Option (List ℕ)) → VerifySays end left left' contents contents' → VerifyRuns (verify_status end) left left' contents contents'
+verify_runs verify.Valid left left' contents contents' says = says
+verify_runs verify.Invalid left left' contents contents' says = says
+verify_runs (verify.TooWide wide) left left' contents contents' says = says
+verify_runs (verify.NoModel fault) left left' contents contents' says = says
+verify_runs (verify.Refused line) left left' contents contents' says = says
+verify_runs verify.ReadFault left left' contents contents' says = says
+verify_runs verify.WriteFault left left' contents contents' says = says
+verify_runs verify.NoMemory left left' contents contents' says = says
+verify_runs verify.TooLong left left' contents contents' says = says
+
 -- ---- want of memory
 
 none_read : (left : Option (List ℕ)) → Reads left left []
@@ -177,20 +195,37 @@ nothing_told owner left contents = record {
   never_full = refl;
 }
 
+nothing_taken : (limit : ℕ) (left : Option (List ℕ)) → Takes limit left left []
+nothing_taken limit left = record { read = none_read left; before = []; last = []; whole = refl; allowed = omega arith; short = omega arith }
+
 nothing_of_model : (is_answer : Relation) (left contents : Option (List ℕ)) → ModelRuns is_answer NoMemory' left left contents contents
-nothing_of_model is_answer left contents = ([], record { read = none_read left; before = []; last = []; whole = refl; allowed = omega arith; short = omega arith }, refl)
+nothing_of_model is_answer left contents = ([], nothing_taken _ left, refl)
 
 -- Nothing was done.
 pub nothing_runs : (task : Task) (left contents : Option (List ℕ)) → RunsAs task NoMemory' left left contents contents
 nothing_runs (Session owner) left contents = (tt, nothing_told owner left contents)
 nothing_runs (Solve p) left contents = nothing_of_model (IsSolved p) left contents
 nothing_runs Limits left contents = nothing_of_model TellsLimits left contents
+nothing_runs Verify left contents = ([], nothing_taken _ left, refl)
 
 -- The line of a fault found no memory.
 pub untold_runs : (task : Task) (fault : ModelFault) (left left' contents contents' : Option (List ℕ)) → RunsAs task (NoModel fault) left left' contents contents' → RunsAs task NoMemory' left left' contents contents'
 untold_runs (Session owner) fault left left' contents contents' runs = absurd runs.0
 untold_runs (Solve p) fault left left' contents contents' runs = (runs.0, runs.1.takes, runs.2.1)
 untold_runs Limits fault left left' contents contents' runs = (runs.0, runs.1.takes, runs.2.1)
+untold_runs Verify fault left left' contents contents' runs = (runs.0, runs.1.takes, runs.2.1)
+
+untold_line : (task : Task) (line : ℕ) (left left' contents contents' : Option (List ℕ)) → RunsAs task (Refused line) left left' contents contents' → RunsAs task NoMemory' left left' contents contents'
+untold_line (Session owner) line left left' contents contents' runs = absurd runs.0
+untold_line (Solve p) line left left' contents contents' runs = absurd runs
+untold_line Limits line left left' contents contents' runs = absurd runs
+untold_line Verify line left left' contents contents' runs = (runs.0, runs.1.takes, runs.2.1)
+
+untold_wide : (task : Task) (wide : Wide) (left left' contents contents' : Option (List ℕ)) → RunsAs task (TooWide wide) left left' contents contents' → RunsAs task NoMemory' left left' contents contents'
+untold_wide (Session owner) wide left left' contents contents' runs = absurd runs.0
+untold_wide (Solve p) wide left left' contents contents' runs = absurd runs
+untold_wide Limits wide left left' contents contents' runs = absurd runs
+untold_wide Verify wide left left' contents contents' runs = (runs.0, runs.1.takes, runs.2.1)
 
 -- the same where words ask for something
 pub asked_nothing_runs : (asked : Option Task) (left contents : Option (List ℕ)) → IfSome asked (λ task. RunsAs task NoMemory' left left contents contents)
@@ -202,6 +237,13 @@ told_runs : (task : Task) (status told : Status) (left left' contents contents' 
 told_runs task (NoModel fault) told left left' contents contents' (inl same) runs = subst (λ s. RunsAs task s left left' contents contents') (sym same) runs
 told_runs task (NoModel fault) told left left' contents contents' (inr none) runs =
     subst (λ s. RunsAs task s left left' contents contents') (sym none) (untold_runs task fault left left' contents contents' runs)
+told_runs task (Refused line) told left left' contents contents' (inl same) runs = subst (λ s. RunsAs task s left left' contents contents') (sym same) runs
+told_runs task (Refused line) told left left' contents contents' (inr none) runs =
+    subst (λ s. RunsAs task s left left' contents contents') (sym none) (untold_line task line left left' contents contents' runs)
+told_runs task (TooWide wide) told left left' contents contents' (inl same) runs = subst (λ s. RunsAs task s left left' contents contents') (sym same) runs
+told_runs task (TooWide wide) told left left' contents contents' (inr none) runs =
+    subst (λ s. RunsAs task s left left' contents contents') (sym none) (untold_wide task wide left left' contents contents' runs)
+told_runs task Invalid told left left' contents contents' same runs = subst (λ s. RunsAs task s left left' contents contents') (sym same) runs
 told_runs task Done' told left left' contents contents' same runs = subst (λ s. RunsAs task s left left' contents contents') (sym same) runs
 told_runs task WordsRefused' told left left' contents contents' same runs = subst (λ s. RunsAs task s left left' contents contents') (sym same) runs
 told_runs task ReadFault' told left left' contents contents' same runs = subst (λ s. RunsAs task s left left' contents contents') (sym same) runs

@@ -1,5 +1,5 @@
 -- What the top call leaves behind, by its status.
-use Rattle.std.specs.Prelude.{ℕ, true, false, ◌≡◌, ◌⊎◌, List, [], ◌++◌, codes, Option, IfSome}
+use Rattle.std.specs.Prelude.{ℕ, true, false, ◌≡◌, ◌⊎◌, List, [], ◌++◌, codes, decimal, Option, IfSome}
 use Rattle.base_names.specs.Outside.{Rose, Reads, Writes, IsAtEnd}
 use Rattle.base_names.specs.Prefix.{IsPrefix}
 use Rattle.base_names.specs.declared.seat.Role.TheVariants.{Standard}
@@ -18,12 +18,16 @@ use Rattle.model_command.specs.declared.command.ModelEnd.{ModelEnd}
 use Rattle.model_command.specs.declared.command.ModelEnd.TheVariants as model
 use Rattle.solve_command.specs.Solve.{IsSolved}
 use Rattle.limits_command.specs.Told.{TellsLimits}
+use Rattle.frac128.specs.Text.{wide_text}
+use Rattle.verify_command.specs.Verify.{VerifySays}
+use Rattle.verify_command.specs.declared.command.VerifyEnd.{VerifyEnd}
+use Rattle.verify_command.specs.declared.command.VerifyEnd.TheVariants as verify
 use Rattle.cs_top.specs.OwnDesk.{AreOwn}
 use Rattle.cs_top.specs.declared.status.Status.{Status}
-use Rattle.cs_top.specs.declared.status.Status.TheVariants.{Done, NoModel, WordsRefused, ReadFault, WriteFault, NoMemory, TooLong}
+use Rattle.cs_top.specs.declared.status.Status.TheVariants.{Done, NoModel, WordsRefused, ReadFault, WriteFault, NoMemory, TooLong, Invalid, Refused, TooWide}
 use Rattle.cs_top.specs.Task.{task_asked}
 use Rattle.cs_top.specs.declared.task.Task.{Task}
-use Rattle.cs_top.specs.declared.task.Task.TheVariants.{Session, Solve, Limits}
+use Rattle.cs_top.specs.declared.task.Task.TheVariants.{Session, Solve, Limits, Verify}
 
 abbrev pub code_of : Status → ℕ
 code_of Done = 0
@@ -33,6 +37,9 @@ code_of ReadFault = 3
 code_of WriteFault = 4
 code_of NoMemory = 6
 code_of TooLong = 7
+code_of Invalid = 8
+code_of (Refused line) = 9
+code_of (TooWide wide) = 11
 
 abbrev pub session_status : End → Status
 session_status Bye = Done
@@ -50,9 +57,21 @@ model_status model.WriteFault = WriteFault
 model_status model.NoMemory = NoMemory
 model_status model.TooLong = TooLong
 
--- The statuses: done 0, no model 1, words refused 2, read fault 3, write fault 4, want of memory 6, input too long 7.
+abbrev pub verify_status : VerifyEnd → Status
+verify_status verify.Valid = Done
+verify_status verify.Invalid = Invalid
+verify_status (verify.TooWide wide) = TooWide wide
+verify_status (verify.NoModel fault) = NoModel fault
+verify_status (verify.Refused line) = Refused line
+verify_status verify.ReadFault = ReadFault
+verify_status verify.WriteFault = WriteFault
+verify_status verify.NoMemory = NoMemory
+verify_status verify.TooLong = TooLong
+
+-- The statuses: done 0, no model 1, words refused 2, read fault 3, write fault 4, want of memory 6, input too long 7, certificate
+-- invalid 8, line refused 9, certificate too wide 11.
 abbrev pub IsStatus : ℕ → Type 0
-IsStatus status = (status ≡ 0) ⊎ ((status ≡ 1) ⊎ ((status ≡ 2) ⊎ ((status ≡ 3) ⊎ ((status ≡ 4) ⊎ ((status ≡ 6) ⊎ (status ≡ 7))))))
+IsStatus status = (status ≡ 0) ⊎ ((status ≡ 1) ⊎ ((status ≡ 2) ⊎ ((status ≡ 3) ⊎ ((status ≡ 4) ⊎ ((status ≡ 6) ⊎ ((status ≡ 7) ⊎ ((status ≡ 8) ⊎ ((status ≡ 9) ⊎ (status ≡ 11)))))))))
 
 -- ---- a session
 
@@ -88,6 +107,9 @@ pub record SessionSays (status : ℕ) (owner : List ℕ) (left left' contents co
 abbrev pub IsSessionStatus : Status → Type 0
 IsSessionStatus (NoModel fault) = ⊥
 IsSessionStatus WordsRefused = ⊥
+IsSessionStatus Invalid = ⊥
+IsSessionStatus (Refused line) = ⊥
+IsSessionStatus (TooWide wide) = ⊥
 IsSessionStatus _ = Unit {0}
 
 abbrev pub SessionRuns : (owner : List ℕ) → Status → (left left' contents contents' : Option (List ℕ)) → Type 0
@@ -104,6 +126,23 @@ ModelRuns is_answer ReadFault left left' contents contents' = Says is_answer mod
 ModelRuns is_answer WriteFault left left' contents contents' = Says is_answer model.WriteFault left left' contents contents'
 ModelRuns is_answer NoMemory left left' contents contents' = Says is_answer model.NoMemory left left' contents contents'
 ModelRuns is_answer TooLong left left' contents contents' = Says is_answer model.TooLong left left' contents contents'
+ModelRuns is_answer Invalid left left' contents contents' = ⊥
+ModelRuns is_answer (Refused line) left left' contents contents' = ⊥
+ModelRuns is_answer (TooWide wide) left left' contents contents' = ⊥
+
+-- ---- a check
+
+abbrev pub VerifyRuns : Status → (left left' contents contents' : Option (List ℕ)) → Type 0
+VerifyRuns Done left left' contents contents' = VerifySays verify.Valid left left' contents contents'
+VerifyRuns Invalid left left' contents contents' = VerifySays verify.Invalid left left' contents contents'
+VerifyRuns (TooWide wide) left left' contents contents' = VerifySays (verify.TooWide wide) left left' contents contents'
+VerifyRuns (NoModel fault) left left' contents contents' = VerifySays (verify.NoModel fault) left left' contents contents'
+VerifyRuns (Refused line) left left' contents contents' = VerifySays (verify.Refused line) left left' contents contents'
+VerifyRuns ReadFault left left' contents contents' = VerifySays verify.ReadFault left left' contents contents'
+VerifyRuns WriteFault left left' contents contents' = VerifySays verify.WriteFault left left' contents contents'
+VerifyRuns NoMemory left left' contents contents' = VerifySays verify.NoMemory left left' contents contents'
+VerifyRuns TooLong left left' contents contents' = VerifySays verify.TooLong left left' contents contents'
+VerifyRuns WordsRefused left left' contents contents' = ⊥
 
 -- ---- the program
 
@@ -111,6 +150,7 @@ abbrev pub RunsAs : Task → Status → (left left' contents contents' : Option 
 RunsAs (Session owner) status left left' contents contents' = SessionRuns owner status left left' contents contents'
 RunsAs (Solve p) status left left' contents contents' = ModelRuns (IsSolved p) status left left' contents contents'
 RunsAs Limits status left left' contents contents' = ModelRuns TellsLimits status left left' contents contents'
+RunsAs Verify status left left' contents contents' = VerifyRuns status left left' contents contents'
 
 -- the line that tells why
 abbrev pub error_line : Status → List ℕ
@@ -121,10 +161,15 @@ error_line ReadFault = codes "read fault\n"
 error_line WriteFault = codes "write fault\n"
 error_line NoMemory = codes "out of memory\n"
 error_line TooLong = codes "input too long\n"
+error_line Invalid = codes "certificate invalid\n"
+error_line (Refused line) = codes "line " ++ (decimal line ++ codes " refused\n")
+error_line (TooWide wide) = codes "certificate too wide: " ++ (wide_text wide ++ codes "\n")
 
 -- What stands where the line of a status is to be written: for want of memory for a fault's line this is the status.
 abbrev pub IsReportOf : Status → Status → Type 0
 IsReportOf (NoModel fault) told = (told ≡ NoModel fault) ⊎ (told ≡ NoMemory)
+IsReportOf (Refused line) told = (told ≡ Refused line) ⊎ (told ≡ NoMemory)
+IsReportOf (TooWide wide) told = (told ≡ TooWide wide) ⊎ (told ≡ NoMemory)
 IsReportOf status told = told ≡ status
 
 -- The line is written, or a front of it where that sink's faults rose.

@@ -4,7 +4,7 @@ use Rattle.base_names.specs.declared.seat.Role.TheVariants.{Standard, Admin}
 use Rattle.base_names.specs.declared.seat.Role.{Role}
 use Rattle.command_words.specs.Asked.{Asked, asked, limits, load, replay, serve, session, solve, usual_journal, verify, work}
 use Rattle.cs_top.specs.declared.task.Task.{Task}
-use Rattle.cs_top.specs.declared.task.Task.TheVariants.{Session, Solve, Limits}
+use Rattle.cs_top.specs.declared.task.Task.TheVariants.{Session, Solve, Limits, Verify}
 
 -- A session keeps no journal yet, and has no commands of an administrator's.
 abbrev pub session_task : List ℕ → Role → (journal : List ℕ) → Option Task
@@ -17,7 +17,7 @@ task_of (solve params) = Some (Solve params)
 task_of limits = Some Limits
 task_of (work journal) = None
 task_of replay = None
-task_of verify = None
+task_of verify = Some Verify
 task_of (load seed) = None
 task_of (serve server) = None
 

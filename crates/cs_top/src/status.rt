@@ -1,14 +1,16 @@
 //! The statuses of the program, and the lines that tell why.
 
 ghost use Rattle.std.specs.Prelude.{◌≡◌, IfOk};
-ghost use Rattle.cs_top.specs.Run.{IsReportOf, Reports, code_of, error_line, model_status, session_status};
+ghost use Rattle.cs_top.specs.Run.{IsReportOf, Reports, code_of, error_line, model_status, session_status, verify_status};
 
 use base_io::{Sink, put};
 use base_names::{NoMemory, append};
+use frac128::Wide;
 use lp_defs::ModelFault;
 use model_command::ModelEnd;
 use session::End;
 use std::alloc::Global;
+use verify_command::VerifyEnd;
 
 /// The line for want of memory.
 const NO_MEMORY_LINE: &[u8] = b"out of memory\n";
@@ -24,6 +26,12 @@ pub enum Status {
     WriteFault,
     NoMemory,
     TooLong,
+    /// The certificate isn't valid.
+    Invalid,
+    /// The line of this number is refused.
+    Refused(u32),
+    /// The first operation of a check that doesn't fit.
+    TooWide(Wide),
 }
 
 impl Status {
@@ -39,6 +47,9 @@ impl Status {
             Status::WriteFault => 4,
             Status::NoMemory => 6,
             Status::TooLong => 7,
+            Status::Invalid => 8,
+            Status::Refused(_) => 9,
+            Status::TooWide(_) => 11,
         }
     }
 
@@ -48,14 +59,17 @@ impl Status {
         ensures status { IsReportOf self result }
         ensures reports { Reports (error_line result) (E.faults errs.old) (E.faults errs.new) (E.contents errs.old) (E.contents errs.new) }
     {
-        match self {
+        match &self {
             Status::Done => reported(self, b"", errs),
-            Status::NoModel(fault) => report_fault(alloc, fault, errs),
+            Status::NoModel(fault) => report_fault(alloc, *fault, errs),
             Status::WordsRefused => reported(self, b"words refused\n", errs),
             Status::ReadFault => reported(self, b"read fault\n", errs),
             Status::WriteFault => reported(self, b"write fault\n", errs),
             Status::NoMemory => reported(self, NO_MEMORY_LINE, errs),
             Status::TooLong => reported(self, b"input too long\n", errs),
+            Status::Invalid => reported(self, b"certificate invalid\n", errs),
+            Status::Refused(line) => report_refused(alloc, *line, errs),
+            Status::TooWide(wide) => report_wide(alloc, wide, errs),
         }
     }
 }
@@ -91,6 +105,46 @@ fn fault_line(alloc: Global, fault: ModelFault) -> Result<Vec<u8>, NoMemory>
     Ok(line)
 }
 
+/// Tells the line that is refused.
+fn report_refused<E: Sink>(alloc: Global, number: u32, errs: &mut E) -> Status
+    ensures same { E.name errs.new ≡ E.name errs.old }
+    ensures status { IsReportOf (Status.Refused number) result }
+    ensures reports { Reports (error_line result) (E.faults errs.old) (E.faults errs.new) (E.contents errs.old) (E.contents errs.new) }
+{
+    match refused_line(alloc, number) {
+        Ok(line) => reported(Status::Refused(number), line.as_slice(), errs),
+        Err(_) => reported(Status::NoMemory, NO_MEMORY_LINE, errs),
+    }
+}
+
+fn refused_line(alloc: Global, number: u32) -> Result<Vec<u8>, NoMemory>
+    ensures { IfOk result (λ line. line.items ≡ error_line (Status.Refused number)) }
+{
+    let mut line = Vec::new(alloc);
+    append(&mut line, format_args!("line {number} refused\n"))?;
+    Ok(line)
+}
+
+/// Tells the operation that doesn't fit.
+fn report_wide<E: Sink>(alloc: Global, wide: &Wide, errs: &mut E) -> Status
+    ensures same { E.name errs.new ≡ E.name errs.old }
+    ensures status { IsReportOf (Status.TooWide wide.now) result }
+    ensures reports { Reports (error_line result) (E.faults errs.old) (E.faults errs.new) (E.contents errs.old) (E.contents errs.new) }
+{
+    match wide_line(alloc, wide) {
+        Ok(line) => reported(Status::TooWide(*wide), line.as_slice(), errs),
+        Err(_) => reported(Status::NoMemory, NO_MEMORY_LINE, errs),
+    }
+}
+
+fn wide_line(alloc: Global, wide: &Wide) -> Result<Vec<u8>, NoMemory>
+    ensures { IfOk result (λ line. line.items ≡ error_line (Status.TooWide wide.now)) }
+{
+    let mut line = Vec::new(alloc);
+    append(&mut line, format_args!("certificate too wide: {wide}\n"))?;
+    Ok(line)
+}
+
 impl From<End> for Status {
     ghost from_gives = { λ end status. status ≡ session_status end };
 
@@ -116,6 +170,24 @@ impl From<ModelEnd> for Status {
             ModelEnd::WriteFault => Status::WriteFault,
             ModelEnd::NoMemory => Status::NoMemory,
             ModelEnd::TooLong => Status::TooLong,
+        }
+    }
+}
+
+impl From<VerifyEnd> for Status {
+    ghost from_gives = { λ end status. status ≡ verify_status end };
+
+    fn from(end: VerifyEnd) -> Status {
+        match &end {
+            VerifyEnd::Valid => Status::Done,
+            VerifyEnd::Invalid => Status::Invalid,
+            VerifyEnd::TooWide(wide) => Status::TooWide(*wide),
+            VerifyEnd::NoModel(fault) => Status::NoModel(*fault),
+            VerifyEnd::Refused(line) => Status::Refused(*line),
+            VerifyEnd::ReadFault => Status::ReadFault,
+            VerifyEnd::WriteFault => Status::WriteFault,
+            VerifyEnd::NoMemory => Status::NoMemory,
+            VerifyEnd::TooLong => Status::TooLong,
         }
     }
 }

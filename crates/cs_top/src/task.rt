@@ -20,6 +20,8 @@ pub enum Task {
     Solve(Params),
     /// Tell the limits that a solve of the model of a text doesn't meet.
     Limits,
+    /// Tell whether the certificate of a text is valid.
+    Verify,
 }
 
 /// What these words have the program do, if it can.
@@ -30,7 +32,8 @@ pub fn task_of(words: &Words) -> Option<Task>
         Words::Session(owner, role, journal) => session_task(*owner, *role, journal),
         Words::Solve(params) => Some(Task::Solve(*params)),
         Words::Limits => Some(Task::Limits),
-        Words::Work(_) | Words::Replay | Words::Verify | Words::Load(_) | Words::Serve(_) => None,
+        Words::Verify => Some(Task::Verify),
+        Words::Work(_) | Words::Replay | Words::Load(_) | Words::Serve(_) => None,
     }
 }
 

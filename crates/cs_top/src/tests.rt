@@ -2,7 +2,7 @@
 
 use crate::run;
 use base_io::{Got, MemSink, MemSource, Source};
-use base_names::NoMemory;
+use base_names::{NoMemory, append};
 use disk_model::MemDisk;
 use std::alloc::Global;
 use std::process::Abort;
@@ -233,7 +233,8 @@ fn refuses_words(rt: HostRuntime) -> Result<(), Fail> {
         &["cs_main", "solve", "ada"],
         &["cs_main", "solve", "--nodes", "-1"],
         &["cs_main", "solve", "--nodes", "1000000001"],
-        &["cs_main", "verify"],
+        &["cs_main", "verify", "ada"],
+        &["cs_main", "replay"],
     ];
     for words in rows {
         let mut source = MemSource::new(b"BYE\n".to_vec(rt.alloc())?, Vec::new(rt.alloc()));
@@ -254,10 +255,18 @@ fn solved(alloc: Global, words: &[&str], text: &[u8]) -> Result<Ran, NoMemory> {
     run_over(alloc, all.as_slice(), &mut source, &[])
 }
 
+/// Tells the limits of a text.
+fn limited(alloc: Global, text: &[u8]) -> Result<Ran, NoMemory> {
+    let mut source = MemSource::new(Vec::from_slice(alloc, text)?, Vec::new(alloc));
+    run_over(alloc, &["cs_main", "limits"], &mut source, &[])
+}
+
 const TWO_ROWS: &[u8] = b"Maximize\n x + y\nSubject To\n 2 x + y <= 4\n x + 3 y <= 6\nEnd\n";
 
 const WHOLE_TWO_ROWS: &[u8] =
     b"Maximize\n x + y\nSubject To\n 2 x + y <= 4\n x + 3 y <= 6\nGenerals\n x y\nEnd\n";
+
+const WHOLE_HALF: &[u8] = b"Minimize\n x\nSubject To\n 2 x = 1\nBinaries\n x\nEnd\n";
 
 const BEALE: &[u8] = b"Minimize
  -0.75 x1 + 20 x2 - 0.5 x3 + 6 x4
@@ -280,7 +289,7 @@ fn solves_models(rt: HostRuntime) -> Result<(), Fail> {
             b"OUTCOME 2 9 5 102\nVALUE 2\nX 1\nX 1\nSPLIT 1 1\nSPLIT 2 1\nBOUND\nU 1 1\nU 2 1\nBOUND\nR 2 1\nL 2 2\nBOUND\nR 1 1\nL 1 1\nEND\n",
         ),
         (
-            b"Minimize\n x\nSubject To\n 2 x = 1\nBinaries\n x\nEnd\n",
+            WHOLE_HALF,
             b"OUTCOME 3 5 3 75\nSPLIT 1 0\nFARKAS\nR 1 -1/3\nU 1 2/3\nFARKAS\nR 1 1\nL 1 2\nEND\n",
         ),
         (
@@ -334,6 +343,44 @@ fn solves_within_limits(rt: HostRuntime) -> Result<(), Fail> {
 }
 
 #[test]
+fn tells_limits(rt: HostRuntime) -> Result<(), Fail> {
+    let rows: &[(&[u8], &[u8])] = &[
+        (TWO_ROWS, b"ITERATIONS 20\nNODES 1\n"),
+        (WHOLE_TWO_ROWS, b"ITERATIONS OPEN\nNODES OPEN\n"),
+        (WHOLE_HALF, b"ITERATIONS 60\nNODES 3\n"),
+        (
+            b"Max x st Bounds x free Binaries x end",
+            b"ITERATIONS 18\nNODES 3\n",
+        ),
+        // Up to the greatest number of nodes that a solve may be limited to.
+        (
+            b"Max x st Bounds x <= 499999999 Generals x end",
+            b"ITERATIONS OVER\nNODES 999999999\n",
+        ),
+        (
+            b"Max x st Bounds x <= 500000000 Generals x end",
+            b"ITERATIONS OVER\nNODES OVER\n",
+        ),
+    ];
+    for (text, lines) in rows {
+        assert_answers(&rt, &limited(rt.alloc(), text)?, lines);
+    }
+    Ok(())
+}
+
+#[test]
+fn tells_why_a_text_has_no_limits(rt: HostRuntime) -> Result<(), Fail> {
+    let ran = limited(rt.alloc(), b"Max x+y st c: 2x <= 1 end")?;
+    assert_eq!(rt; ran.status, 1);
+    assert_eq!(rt; ran.output.as_slice(), b"".as_slice());
+    assert_eq!(rt;
+        ran.errors.as_slice(),
+        b"model: line 1 column 15 NUMBER\n".as_slice()
+    );
+    Ok(())
+}
+
+#[test]
 fn tells_why_a_text_is_not_solved(rt: HostRuntime) -> Result<(), Fail> {
     let ran = solved(
         rt.alloc(),
@@ -351,6 +398,95 @@ fn tells_why_a_text_is_not_solved(rt: HostRuntime) -> Result<(), Fail> {
     assert_eq!(rt; ran.status, 7);
     assert_eq!(rt; ran.output.as_slice(), b"".as_slice());
     assert_eq!(rt; ran.errors.as_slice(), b"input too long\n".as_slice());
+    Ok(())
+}
+
+/// Runs `verify` over a model's text with a certificate's, where these writes fail.
+fn verified(
+    alloc: Global,
+    model: &[u8],
+    certificate: &[u8],
+    failing: &[u64],
+) -> Result<Ran, NoMemory> {
+    let mut input = Vec::new(alloc);
+    append(&mut input, format_args!("MODEL {}\n", model.len()))?;
+    input.extend_from_slice(model)?;
+    input.extend_from_slice(certificate)?;
+    run_over(
+        alloc,
+        &["cs_main", "verify", "ada"],
+        &["cs_main", "replay"],
+        &mut MemSource::new(input, Vec::new(alloc)),
+        failing,
+    )
+}
+
+/// A model without a point, whose certificate has one leaf.
+const POINTLESS: &[u8] = b"Minimize\n x\nSubject To\n x + y >= 3\nBounds\n x <= 1\n y <= 1\nEnd\n";
+
+#[test]
+fn tells_whether_a_certificate_is_valid(rt: HostRuntime) -> Result<(), Fail> {
+    let rows: &[(&[u8], u8, &[u8], &[u8])] = &[
+        (
+            b"FARKAS\nR 1 -1/3\nU 1 1/3\nU 2 1/3\nEND\n",
+            0,
+            b"VALID\n",
+            b"",
+        ),
+        (
+            b"FARKAS\nR 1 -1/3\nU 1 1/3\nU 2 1/4\nEND\n",
+            8,
+            b"INVALID LEAF 1 SUM 2\n",
+            b"certificate invalid\n",
+        ),
+        (
+            b"FARKAS\nR 1 1/3\nEND\n",
+            8,
+            b"INVALID LEAF 1 SIGN R 1\n",
+            b"certificate invalid\n",
+        ),
+        (b"FARKUS\nR 1 -1/3\nEND\n", 9, b"", b"line 3 refused\n"),
+    ];
+    for (lines, status, output, errors) in rows {
+        let mut certificate = b"OUTCOME 3 3 1 60\n".to_vec(rt.alloc())?;
+        certificate.extend_from_slice(lines)?;
+        let ran = verified(rt.alloc(), POINTLESS, certificate.as_slice(), &[])?;
+        assert_eq!(rt; ran.status, *status);
+        assert_eq!(rt; ran.output.as_slice(), *output);
+        assert_eq!(rt; ran.errors.as_slice(), *errors);
+    }
+    Ok(())
+}
+
+#[test]
+fn tells_an_operation_that_does_not_fit(rt: HostRuntime) -> Result<(), Fail> {
+    let ran = verified(
+        rt.alloc(),
+        b"Maximize\n x + y\nSubject To\n 1e30 x + y <= 1\n x + 1e30 y <= 1\nEnd\n",
+        b"OUTCOME 7 0 0 0\nVALUE 0\nX 1000000000000000000000000000000\nX 0\nNONE\nEND\n",
+        &[],
+    )?;
+    assert_eq!(rt; ran.status, 11);
+    assert_eq!(rt; ran.output.as_slice(), b"".as_slice());
+    assert_eq!(rt;
+        ran.errors.as_slice(),
+        b"certificate too wide: MUL 1000000000000000000000000000000 1000000000000000000000000000000\n".as_slice()
+    );
+    Ok(())
+}
+
+#[test]
+fn tells_why_an_input_is_not_checked(rt: HostRuntime) -> Result<(), Fail> {
+    let ran = verified(rt.alloc(), b"Minimize\n", b"OUTCOME\n", &[])?;
+    assert_eq!(rt; ran.status, 1);
+    assert_eq!(rt;
+        ran.errors.as_slice(),
+        b"model: line 2 column 1 NOSECTION\n".as_slice()
+    );
+    let ran = verified(rt.alloc(), POINTLESS, b"OUTCOME 8 0 0 0\nNONE\nEND\n", &[1])?;
+    assert_eq!(rt; ran.status, 4);
+    assert_eq!(rt; ran.output.as_slice(), b"".as_slice());
+    assert_eq!(rt; ran.errors.as_slice(), b"write fault\n".as_slice());
     Ok(())
 }
 

@@ -16,12 +16,14 @@ use limits_command::limits;
 use session::talk;
 use solve_command::solve;
 use std::alloc::Global;
+use verify_command::verify;
 
 /// Does what the words ask for, and gives the status: 0 where all was done, 1 where the text is no model's,
 /// 2 where the words are refused, 3 and 4 where the source or the sink failed, 6 for want of memory, and 7 where the input, or a
-/// line of a session, is too long.
+/// line of a session, is too long. A certificate that isn't valid is 8, a line that is refused 9, and a check with an operation that
+/// doesn't fit 11.
 ///
-/// `words` begins with the program's name; `session NAME`, `solve` with its limits, and `limits` are what is known. What goes wrong is told
+/// `words` begins with the program's name; `session NAME`, `solve` with its limits, `limits` and `verify` are what is known. What goes wrong is told
 /// in one line on `errs`; a failing write there changes nothing. The disk isn't touched.
 pub fn run<S: Source, K: Sink, E: Sink, D: Disk>(
     alloc: Global,
@@ -92,6 +94,7 @@ fn obey<S: Source, K: Sink>(alloc: Global, task: &Task, source: &mut S, sink: &m
         Task::Session(owner) => hold_session(alloc, *owner, source, sink),
         Task::Solve(params) => Status::from(solve(alloc, params, source, sink)),
         Task::Limits => Status::from(limits(alloc, source, sink)),
+        Task::Verify => Status::from(verify(alloc, source, sink)),
     }
 }
 
