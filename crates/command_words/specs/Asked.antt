@@ -14,7 +14,7 @@ use Rattle.model_data.specs.Params.{usual_params}
 use Rattle.command_words.specs.Given.{Word, Given, set, value_of}
 use Rattle.command_words.specs.Table.{reads, table}
 use Rattle.command_words.specs.declared.asked.Words.{Words}
-use Rattle.command_words.specs.declared.asked.Words.TheVariants.{Session, Work, Replay, Solve, Verify, Load, Serve}
+use Rattle.command_words.specs.declared.asked.Words.TheVariants.{Session, Work, Replay, Solve, Verify, Limits, Load, Serve}
 use Rattle.command_words.specs.declared.asked.ServeWords.{ServeWords}
 use Rattle.command_words.specs.declared.asked.WordsFault.{WordsFault}
 use Rattle.command_words.specs.declared.values.Sizes.{Sizes}
@@ -35,6 +35,7 @@ pub data Asked : Type 0 where
   replay : Asked
   solve : Params → Asked
   verify : Asked
+  limits : Asked
   load : ℕ → Asked
   serve : Server → Asked
 
@@ -47,6 +48,7 @@ shown (Work journal) = work (string_bytes journal)
 shown Replay = replay
 shown (Solve params) = solve params
 shown Verify = verify
+shown Limits = limits
 shown (Load seed) = load seed
 shown (Serve words) = serve (server_shown words)
 
@@ -148,9 +150,10 @@ meant command given =
     else (if bytes_eq command (codes "replay") then Some replay
     else (if bytes_eq command (codes "solve") then solve_asked (value_of (codes "iterations") given) (value_of (codes "nodes") given) (value_of (codes "work") given)
     else (if bytes_eq command (codes "verify") then Some verify
+    else (if bytes_eq command (codes "limits") then Some limits
     else (if bytes_eq command (codes "load") then load_asked (value_of (codes "SEED") given)
     else (if bytes_eq command (codes "serve") then serve_meant given
-    else None))))))
+    else None)))))))
 
 -- What these words ask for; they begin with the program's name.
 abbrev pub asked : List Word → Option Asked

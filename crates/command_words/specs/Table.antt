@@ -29,8 +29,8 @@ Table = List (Word × Line)
 
 abbrev pub table : Table
 table = (codes "session", session_line) ∷ (codes "work", work_line) ∷ (codes "replay", line [] None)
-    ∷ (codes "solve", solve_line) ∷ (codes "verify", line [] None) ∷ (codes "load", load_line)
-    ∷ (codes "serve", serve_line) ∷ []
+    ∷ (codes "solve", solve_line) ∷ (codes "verify", line [] None) ∷ (codes "limits", line [] None)
+    ∷ (codes "load", load_line) ∷ (codes "serve", serve_line) ∷ []
 
 abbrev pub subcommand : Table → Word → Option (Word × Line)
 subcommand t word = find (λ p. bytes_eq p.0 word) t

@@ -133,6 +133,7 @@ pub fn command_line<'a>(alloc: Global) -> Result<Command<'a>, AllocError>
     let command = with_subcommand(command, lone_command(alloc, "replay"))?;
     let command = with_subcommand(command, solve_command(alloc)?)?;
     let command = with_subcommand(command, lone_command(alloc, "verify"))?;
+    let command = with_subcommand(command, lone_command(alloc, "limits"))?;
     let command = with_subcommand(command, load_command(alloc)?)?;
     with_subcommand(command, serve_command(alloc)?)
 }

@@ -151,6 +151,8 @@ fn words_of<'a>(
         solve_of(matches)
     } else if name == "verify" {
         Ok(Words::Verify)
+    } else if name == "limits" {
+        Ok(Words::Limits)
     } else if name == "load" {
         load_of(matches)
     } else if name == "serve" {

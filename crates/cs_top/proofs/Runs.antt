@@ -8,7 +8,6 @@ use Rattle.cluster_defs.specs.declared.entry.Entry.{Entry}
 use Rattle.session.specs.Beginning.{at_first}
 use Rattle.session.specs.Conversing.{Converses}
 use Rattle.lp_defs.specs.declared.fault.ModelFault.{ModelFault}
-use Rattle.model_data.specs.declared.params.Params.{Params}
 use Rattle.session.specs.Dialogue.{Told, told_nothing}
 use Rattle.session.specs.Hearing.{Heard}
 use Rattle.session.specs.Session.{Call}
@@ -17,15 +16,17 @@ use Rattle.session.specs.Transcript.{session_writing}
 use Rattle.session.specs.Writing.{Writing, IsNeeded}
 use Rattle.session.specs.declared.talking.End.{End}
 use Rattle.session.specs.declared.talking.End.TheVariants.{Bye, Closed, ReadFault, WriteFault, TooLong, NoMemory}
-use Rattle.solve_command.specs.Solve.{SolveSays}
-use Rattle.solve_command.specs.declared.command.SolveEnd.{SolveEnd}
-use Rattle.solve_command.specs.declared.command.SolveEnd.TheVariants as solve
+use Rattle.model_command.specs.Says.{Relation, Says}
+use Rattle.model_command.specs.declared.command.ModelEnd.{ModelEnd}
+use Rattle.model_command.specs.declared.command.ModelEnd.TheVariants as model
+use Rattle.solve_command.specs.Solve.{IsSolved}
+use Rattle.limits_command.specs.Told.{TellsLimits}
 use Rattle.cs_top.specs.OwnDesk.{AreOwn}
-use Rattle.cs_top.specs.Run.{IsReportOf, IsSessionStatus, RunSays, RunsAs, SessionRuns, SessionSays, SolveRuns, code_of, seat_of, session_status, solve_status}
+use Rattle.cs_top.specs.Run.{IsReportOf, IsSessionStatus, RunSays, RunsAs, ModelRuns, SessionRuns, SessionSays, code_of, model_status, seat_of, session_status}
 use Rattle.cs_top.specs.declared.status.Status.{Status}
 use Rattle.cs_top.specs.declared.status.Status.TheVariants.{NoModel, Done as Done', WordsRefused as WordsRefused', ReadFault as ReadFault', WriteFault as WriteFault', NoMemory as NoMemory', TooLong as TooLong'}
 use Rattle.cs_top.specs.declared.task.Task.{Task}
-use Rattle.cs_top.specs.declared.task.Task.TheVariants.{Session, Solve}
+use Rattle.cs_top.specs.declared.task.Task.TheVariants.{Session, Solve, Limits}
 
 pub is_session_status : (end : End) → IsSessionStatus (session_status end)
 is_session_status Bye = tt
@@ -135,15 +136,16 @@ pub session_runs : (end : End) (owner : List ℕ) (reader : Held) (mine : List E
 session_runs end owner reader mine left left' contents contents' new converses own =
     (is_session_status end, session_says end owner reader mine left left' contents contents' new converses own)
 
--- ---- a solve
+-- ---- a command over the text of a model
 
-pub solve_runs : (p : Params) (end : SolveEnd) (left left' contents contents' : Option (List ℕ)) → SolveSays p end left left' contents contents' → SolveRuns p (solve_status end) left left' contents contents'
-solve_runs p solve.Done left left' contents contents' says = says
-solve_runs p (solve.NoModel fault) left left' contents contents' says = says
-solve_runs p solve.ReadFault left left' contents contents' says = says
-solve_runs p solve.WriteFault left left' contents contents' says = says
-solve_runs p solve.NoMemory left left' contents contents' says = says
-solve_runs p solve.TooLong left left' contents contents' says = says
+pub model_runs : (is_answer : Relation) (end : ModelEnd) (left left' contents contents' : Option (List ℕ)) → Says is_answer end left left' contents contents'
+    → ModelRuns is_answer (model_status end) left left' contents contents'
+model_runs is_answer model.Done left left' contents contents' says = says
+model_runs is_answer (model.NoModel fault) left left' contents contents' says = says
+model_runs is_answer model.ReadFault left left' contents contents' says = says
+model_runs is_answer model.WriteFault left left' contents contents' says = says
+model_runs is_answer model.NoMemory left left' contents contents' says = says
+model_runs is_answer model.TooLong left left' contents contents' says = says
 
 -- ---- want of memory
 
@@ -175,15 +177,20 @@ nothing_told owner left contents = record {
   never_full = refl;
 }
 
+nothing_of_model : (is_answer : Relation) (left contents : Option (List ℕ)) → ModelRuns is_answer NoMemory' left left contents contents
+nothing_of_model is_answer left contents = ([], record { read = none_read left; before = []; last = []; whole = refl; allowed = omega arith; short = omega arith }, refl)
+
 -- Nothing was done.
 pub nothing_runs : (task : Task) (left contents : Option (List ℕ)) → RunsAs task NoMemory' left left contents contents
 nothing_runs (Session owner) left contents = (tt, nothing_told owner left contents)
-nothing_runs (Solve p) left contents = ([], record { read = none_read left; before = []; last = []; whole = refl; allowed = omega arith; short = omega arith }, refl)
+nothing_runs (Solve p) left contents = nothing_of_model (IsSolved p) left contents
+nothing_runs Limits left contents = nothing_of_model TellsLimits left contents
 
 -- The line of a fault found no memory.
 pub untold_runs : (task : Task) (fault : ModelFault) (left left' contents contents' : Option (List ℕ)) → RunsAs task (NoModel fault) left left' contents contents' → RunsAs task NoMemory' left left' contents contents'
 untold_runs (Session owner) fault left left' contents contents' runs = absurd runs.0
 untold_runs (Solve p) fault left left' contents contents' runs = (runs.0, runs.1.takes, runs.2.1)
+untold_runs Limits fault left left' contents contents' runs = (runs.0, runs.1.takes, runs.2.1)
 
 -- the same where words ask for something
 pub asked_nothing_runs : (asked : Option Task) (left contents : Option (List ℕ)) → IfSome asked (λ task. RunsAs task NoMemory' left left contents contents)

@@ -4,7 +4,6 @@ use Rattle.base_names.specs.Outside.{Rose, Reads, Writes, IsAtEnd}
 use Rattle.base_names.specs.Prefix.{IsPrefix}
 use Rattle.base_names.specs.declared.seat.Role.TheVariants.{Standard}
 use Rattle.base_names.specs.declared.seat.Seat.{Seat}
-use Rattle.model_data.specs.declared.params.Params.{Params}
 use Rattle.lp_defs.specs.FaultText.{placed_text}
 use Rattle.session.specs.Beginning.{at_first}
 use Rattle.session.specs.Dialogue.{Told, IsFront}
@@ -14,15 +13,17 @@ use Rattle.session.specs.Transcript.{session_writing}
 use Rattle.session.specs.Writing.{Writing, MayFollow, IsNeeded}
 use Rattle.session.specs.declared.talking.End.{End}
 use Rattle.session.specs.declared.talking.End.TheVariants.{Bye, Closed, ReadFault as ReadFault', WriteFault as WriteFault', TooLong as TooLong', NoMemory as NoMemory'}
-use Rattle.solve_command.specs.Solve.{SolveSays}
-use Rattle.solve_command.specs.declared.command.SolveEnd.{SolveEnd}
-use Rattle.solve_command.specs.declared.command.SolveEnd.TheVariants as solve
+use Rattle.model_command.specs.Says.{Relation, Says}
+use Rattle.model_command.specs.declared.command.ModelEnd.{ModelEnd}
+use Rattle.model_command.specs.declared.command.ModelEnd.TheVariants as model
+use Rattle.solve_command.specs.Solve.{IsSolved}
+use Rattle.limits_command.specs.Told.{TellsLimits}
 use Rattle.cs_top.specs.OwnDesk.{AreOwn}
 use Rattle.cs_top.specs.declared.status.Status.{Status}
 use Rattle.cs_top.specs.declared.status.Status.TheVariants.{Done, NoModel, WordsRefused, ReadFault, WriteFault, NoMemory, TooLong}
 use Rattle.cs_top.specs.Task.{task_asked}
 use Rattle.cs_top.specs.declared.task.Task.{Task}
-use Rattle.cs_top.specs.declared.task.Task.TheVariants.{Session, Solve}
+use Rattle.cs_top.specs.declared.task.Task.TheVariants.{Session, Solve, Limits}
 
 abbrev pub code_of : Status → ℕ
 code_of Done = 0
@@ -41,13 +42,13 @@ session_status WriteFault' = WriteFault
 session_status TooLong' = TooLong
 session_status NoMemory' = NoMemory
 
-abbrev pub solve_status : SolveEnd → Status
-solve_status solve.Done = Done
-solve_status (solve.NoModel fault) = NoModel fault
-solve_status solve.ReadFault = ReadFault
-solve_status solve.WriteFault = WriteFault
-solve_status solve.NoMemory = NoMemory
-solve_status solve.TooLong = TooLong
+abbrev pub model_status : ModelEnd → Status
+model_status model.Done = Done
+model_status (model.NoModel fault) = NoModel fault
+model_status model.ReadFault = ReadFault
+model_status model.WriteFault = WriteFault
+model_status model.NoMemory = NoMemory
+model_status model.TooLong = TooLong
 
 -- The statuses: done 0, no model 1, words refused 2, read fault 3, write fault 4, want of memory 6, input too long 7.
 abbrev pub IsStatus : ℕ → Type 0
@@ -92,22 +93,24 @@ IsSessionStatus _ = Unit {0}
 abbrev pub SessionRuns : (owner : List ℕ) → Status → (left left' contents contents' : Option (List ℕ)) → Type 0
 SessionRuns owner status left left' contents contents' = IsSessionStatus status × SessionSays (code_of status) owner left left' contents contents'
 
--- ---- a solve
+-- ---- a command over the text of a model
 
-abbrev pub SolveRuns : Params → Status → (left left' contents contents' : Option (List ℕ)) → Type 0
-SolveRuns p Done left left' contents contents' = SolveSays p solve.Done left left' contents contents'
-SolveRuns p (NoModel fault) left left' contents contents' = SolveSays p (solve.NoModel fault) left left' contents contents'
-SolveRuns p WordsRefused left left' contents contents' = ⊥
-SolveRuns p ReadFault left left' contents contents' = SolveSays p solve.ReadFault left left' contents contents'
-SolveRuns p WriteFault left left' contents contents' = SolveSays p solve.WriteFault left left' contents contents'
-SolveRuns p NoMemory left left' contents contents' = SolveSays p solve.NoMemory left left' contents contents'
-SolveRuns p TooLong left left' contents contents' = SolveSays p solve.TooLong left left' contents contents'
+-- The text is answered by one that answers for its model.
+abbrev pub ModelRuns : Relation → Status → (left left' contents contents' : Option (List ℕ)) → Type 0
+ModelRuns is_answer Done left left' contents contents' = Says is_answer model.Done left left' contents contents'
+ModelRuns is_answer (NoModel fault) left left' contents contents' = Says is_answer (model.NoModel fault) left left' contents contents'
+ModelRuns is_answer WordsRefused left left' contents contents' = ⊥
+ModelRuns is_answer ReadFault left left' contents contents' = Says is_answer model.ReadFault left left' contents contents'
+ModelRuns is_answer WriteFault left left' contents contents' = Says is_answer model.WriteFault left left' contents contents'
+ModelRuns is_answer NoMemory left left' contents contents' = Says is_answer model.NoMemory left left' contents contents'
+ModelRuns is_answer TooLong left left' contents contents' = Says is_answer model.TooLong left left' contents contents'
 
 -- ---- the program
 
 abbrev pub RunsAs : Task → Status → (left left' contents contents' : Option (List ℕ)) → Type 0
 RunsAs (Session owner) status left left' contents contents' = SessionRuns owner status left left' contents contents'
-RunsAs (Solve p) status left left' contents contents' = SolveRuns p status left left' contents contents'
+RunsAs (Solve p) status left left' contents contents' = ModelRuns (IsSolved p) status left left' contents contents'
+RunsAs Limits status left left' contents contents' = ModelRuns TellsLimits status left left' contents contents'
 
 -- the line that tells why
 abbrev pub error_line : Status → List ℕ

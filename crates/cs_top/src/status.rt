@@ -1,13 +1,13 @@
 //! The statuses of the program, and the lines that tell why.
 
 ghost use Rattle.std.specs.Prelude.{◌≡◌, IfOk};
-ghost use Rattle.cs_top.specs.Run.{IsReportOf, Reports, code_of, error_line, session_status, solve_status};
+ghost use Rattle.cs_top.specs.Run.{IsReportOf, Reports, code_of, error_line, model_status, session_status};
 
 use base_io::{Sink, put};
 use base_names::{NoMemory, append};
 use lp_defs::ModelFault;
+use model_command::ModelEnd;
 use session::End;
-use solve_command::SolveEnd;
 use std::alloc::Global;
 
 /// The line for want of memory.
@@ -17,7 +17,7 @@ const NO_MEMORY_LINE: &[u8] = b"out of memory\n";
 #[derive(Clone, Copy, Debug, PartialEq, Eq)]
 pub enum Status {
     Done,
-    /// The text is no model's, or its model is too large to be solved.
+    /// The text is no model's, or its model is too large.
     NoModel(ModelFault),
     WordsRefused,
     ReadFault,
@@ -105,17 +105,17 @@ impl From<End> for Status {
     }
 }
 
-impl From<SolveEnd> for Status {
-    ghost from_gives = { λ end status. status ≡ solve_status end };
+impl From<ModelEnd> for Status {
+    ghost from_gives = { λ end status. status ≡ model_status end };
 
-    fn from(end: SolveEnd) -> Status {
+    fn from(end: ModelEnd) -> Status {
         match end {
-            SolveEnd::Done => Status::Done,
-            SolveEnd::NoModel(fault) => Status::NoModel(fault),
-            SolveEnd::ReadFault => Status::ReadFault,
-            SolveEnd::WriteFault => Status::WriteFault,
-            SolveEnd::NoMemory => Status::NoMemory,
-            SolveEnd::TooLong => Status::TooLong,
+            ModelEnd::Done => Status::Done,
+            ModelEnd::NoModel(fault) => Status::NoModel(fault),
+            ModelEnd::ReadFault => Status::ReadFault,
+            ModelEnd::WriteFault => Status::WriteFault,
+            ModelEnd::NoMemory => Status::NoMemory,
+            ModelEnd::TooLong => Status::TooLong,
         }
     }
 }

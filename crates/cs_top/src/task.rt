@@ -18,6 +18,8 @@ pub enum Task {
     Session(Owner),
     /// Solve the model of a text.
     Solve(Params),
+    /// Tell the limits that a solve of the model of a text doesn't meet.
+    Limits,
 }
 
 /// What these words have the program do, if it can.
@@ -27,6 +29,7 @@ pub fn task_of(words: &Words) -> Option<Task>
     match words {
         Words::Session(owner, role, journal) => session_task(*owner, *role, journal),
         Words::Solve(params) => Some(Task::Solve(*params)),
+        Words::Limits => Some(Task::Limits),
         Words::Work(_) | Words::Replay | Words::Verify | Words::Load(_) | Words::Serve(_) => None,
     }
 }

@@ -12,15 +12,16 @@ use base_io::{LineReader, Sink, Source};
 use base_names::{OrMemory, Owner, Role, Seat};
 use command_words::{WordsFault, read_words};
 use disk_model::Disk;
+use limits_command::limits;
 use session::talk;
 use solve_command::solve;
 use std::alloc::Global;
 
-/// Does what the words ask for, and gives the status: 0 where all was done, 1 where the text to be solved is no model's,
+/// Does what the words ask for, and gives the status: 0 where all was done, 1 where the text is no model's,
 /// 2 where the words are refused, 3 and 4 where the source or the sink failed, 6 for want of memory, and 7 where the input, or a
 /// line of a session, is too long.
 ///
-/// `words` begins with the program's name; `session NAME` and `solve` with its limits are what is known. What goes wrong is told
+/// `words` begins with the program's name; `session NAME`, `solve` with its limits, and `limits` are what is known. What goes wrong is told
 /// in one line on `errs`; a failing write there changes nothing. The disk isn't touched.
 pub fn run<S: Source, K: Sink, E: Sink, D: Disk>(
     alloc: Global,
@@ -90,6 +91,7 @@ fn obey<S: Source, K: Sink>(alloc: Global, task: &Task, source: &mut S, sink: &m
     match task {
         Task::Session(owner) => hold_session(alloc, *owner, source, sink),
         Task::Solve(params) => Status::from(solve(alloc, params, source, sink)),
+        Task::Limits => Status::from(limits(alloc, source, sink)),
     }
 }
 

@@ -1,5 +1,7 @@
 //! How many nodes the tree of a solve has at most.
-ghost use Rattle.std.specs.Prelude.{◌≡◌, ◌*◌, ◌≤◌, ℕ, IfSome, Some};
+ghost use Rattle.std.specs.Prelude.{◌≡◌, ◌*◌, ◌<◌, ◌≤◌, ℕ, IfSome};
+ghost use Rattle.limit_defs.specs.Limits.{iterations_of};
+ghost use Rattle.model_data.specs.declared.limits.TheConstants.{MAX_ITERATIONS};
 ghost use Rattle.enough_limits.specs.Bounds.{limited, node_bound};
 
 use crate::variable::range;
@@ -20,9 +22,10 @@ pub enum Nodes {
 }
 
 /// One less than twice the product, over the variables that take whole numbers alone, of how many of these lie between their bounds.
-/// It goes over the variables once.
+/// It goes over the variables once. Where it is over its limit, so are the pivots of all nodes.
 pub fn node_bound(m: &Model) -> Nodes
-    ensures { result ≡ node_bound m.now }
+    ensures value { result ≡ node_bound m.now }
+    ensures over { result ≡ Nodes.Over → MAX_ITERATIONS < iterations_of m.now }
 {
     let mut leaves = Some(1);
     for var in m.vars.as_slice() {

@@ -1,7 +1,7 @@
 //! `solve`: the text of a model in, its outcome with a certificate out.
 //!
-//! [`solve`] reads a whole input, and writes the certificate of the model that it spells, or tells where it is no model's text. What it
-//! answers for a text, and what it did to its source and its sink by its end, stands in `specs/Solve.antt`. The search is
+//! [`solve`] reads a whole input, and writes the certificate of the model that it spells, or tells where it is no model's text. What
+//! answers for a model stands in `specs/Solve.antt`, and what was done to source and sink by the end in `model_command`. The search is
 //! that of `branch_tree`, turn by turn to its end; the law that its outcome is so, and its certificate valid, is
 //! that of `solver_laws`.
 #![tactic(auto)]
@@ -9,4 +9,5 @@
 mod certificate;
 mod command;
 
-pub use command::{SolveEnd, solve};
+pub use command::solve;
+pub use model_command::ModelEnd;

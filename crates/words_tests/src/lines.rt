@@ -21,6 +21,7 @@ fn asked(rt: HostRuntime, line: &str) -> Result<String, Fail> {
         Words::Replay => format!(in alloc; "replay")?,
         Words::Solve(p) => format!(in alloc; "solve {} {} {}", p.iterations, p.nodes, p.work)?,
         Words::Verify => format!(in alloc; "verify")?,
+        Words::Limits => format!(in alloc; "limits")?,
         Words::Load(seed) => format!(in alloc; "load {seed}")?,
         Words::Serve(s) => format!(in alloc;
             "serve {} {} {} {} {} {} {}",
@@ -30,7 +31,7 @@ fn asked(rt: HostRuntime, line: &str) -> Result<String, Fail> {
     Ok(text)
 }
 
-static ROWS: [(&str, &str); 52] = [
+static ROWS: [(&str, &str); 55] = [
     ("p|solve|--nodes=5", "solve 100000 5 1000000000000"),
     ("p|solve|--nodes|5", "solve 100000 5 1000000000000"),
     ("p|solve|--nodes|-1", "refused"),
@@ -76,6 +77,9 @@ static ROWS: [(&str, &str); 52] = [
     ("p|load|18446744073709551616", "refused"),
     ("p|work", "work cluster.journal"),
     ("p|verify", "verify"),
+    ("p|limits", "limits"),
+    ("p|limits|x", "refused"),
+    ("p|limits|--nodes=5", "refused"),
     ("p|serve|--keys|k", "serve k 61000 cluster.journal 1 2 0 2"),
     (
         "p|serve|--port=65535|--keys=k|--journal|j|--nodes=16|--joblimit=1000|--hardlimit=1000|--workers=16",

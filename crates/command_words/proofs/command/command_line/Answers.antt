@@ -10,5 +10,6 @@ returns c =
     let three = c.in_ok-command-3.ensures.app ∙ ap₂ with_subcommand two c.lone_command.ensures.shape in
     let four = c.in_ok-command-4.ensures.app ∙ ap₂ with_subcommand three c.in_ok-solve_command.ensures.shape in
     let five = c.in_ok-command-5.ensures.app ∙ ap₂ with_subcommand four c.lone_command-2.ensures.shape in
-    let six = c.in_ok-command-6.ensures.app ∙ ap₂ with_subcommand five c.in_ok-load_command.ensures.shape in
-    IfOk-weaker c.with_subcommand-7.result _ _ (λ r h. h ∙ ap₂ with_subcommand six c.in_ok-serve_command.ensures.shape) c.with_subcommand-7.ensures.app
+    let six = c.in_ok-command-6.ensures.app ∙ ap₂ with_subcommand five c.lone_command-3.ensures.shape in
+    let seven = c.in_ok-command-7.ensures.app ∙ ap₂ with_subcommand six c.in_ok-load_command.ensures.shape in
+    IfOk-weaker c.with_subcommand-8.result _ _ (λ r h. h ∙ ap₂ with_subcommand seven c.in_ok-serve_command.ensures.shape) c.with_subcommand-8.ensures.app

@@ -1,7 +1,6 @@
-use Rattle.std.proofs.Common.{◌≡◌, ◌∙◌, sym, ap, subst, refl, ◌+◌, ◌*◌, ◌-◌, ◌/◌, ◌<◌, ◌≤◌, arith}
+use Rattle.std.proofs.Common.{◌≡◌, ◌∙◌, sym, ap, subst, refl, ◌+◌, ◌*◌, ◌-◌, ◌/◌, ◌≤◌, arith}
 use Rattle.model_data.specs.declared.limits.TheConstants.{MAX_ITERATIONS}
 use Rattle.limit_defs.specs.Counts.{choose}
-use Rattle.enough_limits.specs.Bounds.{limited}
 use Rattle.enough_limits.proofs.Choose.{next_ways, choose_rises}
 use Rattle.enough_limits.proofs.Limited.{limited_none}
 use Rattle.enough_limits.proofs.pivots.twice_the_ways.Goals as goal

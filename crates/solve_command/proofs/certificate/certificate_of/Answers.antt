@@ -8,4 +8,4 @@ pub write-requires : goal.write-requires
 write-requires c =
     let ended = c.in_ok-outcome.ensures in
     let turns = turn_limit c.args.params.now in
-    subst₂ IsWritable (sym ended.0) (sym ended.1) (plain_writable c.in_ok-model.model c.args.params.now turns (c.solves_are_right.ensures.valid c.args.params.now turns))
+    subst₂ IsWritable (sym ended.0) (sym ended.1) (plain_writable c.args.model c.args.params.now turns (c.solves_are_right.ensures.valid c.args.params.now turns))
