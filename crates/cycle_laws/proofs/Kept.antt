@@ -1,8 +1,8 @@
--- What an exact pivot by the rule keeps.
+-- What exact pivots by the rule keep.
 use Rattle.std.proofs.Common.{◌≡◌, ◌↔◌, ℕ}
 use Rattle.frac128.specs.Order.{IsAtMost}
 use Rattle.dictionary.specs.Dictionary.{Dictionary, entry}
-use Rattle.dictionary.specs.ExactPath.{ExactStep}
+use Rattle.dictionary.specs.ExactPath.{ExactPath, ExactStep, further, here}
 use Rattle.dictionary.specs.Rule.{maximized_row}
 use Rattle.dictionary.specs.Solutions.{HasFeasibleConstants, IsLawful, Point, Solves, own_point}
 use Rattle.cycle_laws.specs.Bases.{maximized_at}
@@ -28,3 +28,15 @@ pub step_stays : (d e : Dictionary) → IsLawful d → ExactStep d e → entry (
 step_stays d e lawful h same =
     let s = step_of d e lawful h in
     own_point_after d e lawful (lawful_after d e lawful s) s (degenerate d e lawful s same)
+
+-- ---- a path
+
+pub record IsSound (d : Dictionary) : Type 0 where
+  pub lawful : IsLawful d
+  pub constants : HasFeasibleConstants d
+
+pub path_sound : {d e : Dictionary} {k : ℕ} → IsLawful d → HasFeasibleConstants d → ExactPath d k e → IsSound e
+path_sound lawful constants here = record { lawful = lawful; constants = constants }
+path_sound lawful constants (further {e = e} {f = f} path step) =
+    let before = path_sound lawful constants path in
+    record { lawful = step_lawful e f before.lawful step; constants = step_feasible e f before.lawful before.constants step }

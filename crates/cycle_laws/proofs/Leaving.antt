@@ -1,5 +1,4 @@
 -- The row that leaves bounds the rise most, and has the smallest variable of those that do.
-
 use Rattle.std.proofs.Common.{◌≡◌, ◌∙◌, refl, sym, ap, subst, ℕ, zero, suc, ◌+◌, ◌<◌, ◌≤◌, true, false, true≢false, List, [], ◌∷◌, length, filter, map, slice_index, slice_index_or, All, Some, Ordering, Less, Equal, Greater, Contains, arith, ltb-true, ltb-false}
 use Rattle.std.specs.Ordering.{MatchOrdering}
 use Rattle.std.specs.Prelude.{◌*ℤ◌, pos}
@@ -15,15 +14,15 @@ use Rattle.dictionary.proofs.Points.Chosen.{GoesBy, Leaves, at_least_from_order,
 use Rattle.cycle_laws.specs.Choices.{LeavesFirst}
 use Rattle.cycle_laws.proofs.Passing.{passing}
 
-unfoldable pub row_ahead_at : ℕ → ℕ → List ℕ → List (List Fraction) → ℕ → RowAhead
+row_ahead_at : ℕ → ℕ → List ℕ → List (List Fraction) → ℕ → RowAhead
 row_ahead_at c r vs rows k = record { row = r + k; variable = slice_index vs k; constant = entry (slice_index_or rows k []) 0; entry = entry (slice_index_or rows k []) c }
 
-pub length-rows : (c r : ℕ) (vs : List ℕ) (rows : List (List Fraction)) → length rows ≡ length vs → length (rows_from c r vs rows) ≡ length vs
+length-rows : (c r : ℕ) (vs : List ℕ) (rows : List (List Fraction)) → length rows ≡ length vs → length (rows_from c r vs rows) ≡ length vs
 length-rows c r [] rows same = refl
 length-rows c r (v ∷ vs) [] same = absurd (omega (arith, same))
 length-rows c r (v ∷ vs) (row ∷ rows) same = ap suc (length-rows c (suc r) vs rows (omega (arith, same)))
 
-pub rows-at : (c r : ℕ) (vs : List ℕ) (rows : List (List Fraction)) (k : ℕ) (e : RowAhead) → length rows ≡ length vs → k < length vs → slice_index_or (rows_from c r vs rows) k e ≡ row_ahead_at c r vs rows k
+rows-at : (c r : ℕ) (vs : List ℕ) (rows : List (List Fraction)) (k : ℕ) (e : RowAhead) → length rows ≡ length vs → k < length vs → slice_index_or (rows_from c r vs rows) k e ≡ row_ahead_at c r vs rows k
 unfolding row_ahead_at
 rows-at c r [] rows k e same within = absurd (omega (arith, within))
 rows-at c r (v ∷ vs) [] k e same within = absurd (omega (arith, same))

@@ -20,7 +20,8 @@ pub fn an_exact_step_keeps_what_a_pivot_keeps()
         → (v : ℕ) → own_point d v ≡ own_point e v }
 {}
 
-/// A path by the rule that isn't empty, all in one phase, doesn't end with the basis that it began with. So no basis is met twice.
+/// No basis is met twice on a path by the rule, all in one phase: behind each dictionary that it reaches comes none with the same basis.
 pub fn the_rule_meets_no_basis_twice()
-    ensures { (d e : Dictionary) (n : ℕ) → IsLawful d → HasFeasibleConstants d → ExactPath d n e → 0 < n → HasSameBasis d e → ⊥ }
+    ensures { (d e f : Dictionary) (n k : ℕ) → IsLawful d → HasFeasibleConstants d → ExactPath d n e → ExactPath e k f → 0 < k
+        → HasSameBasis e f → ⊥ }
 {}

@@ -18,7 +18,7 @@ use Rattle.relaxation_laws.specs.Reached.{Relaxes}
 use Rattle.relaxation_laws.proofs.ByRule.{awaits_none, comes_artificial, comes_by_rule, made_by_rule, settled_two}
 use Rattle.relaxation_laws.proofs.FirstStep.{awaits_opening, least_opening, opening_without}
 use Rattle.relaxation_laws.proofs.Steps.{opening_reached, path_reached}
-use Rattle.cycle_laws.proofs.Kept.{step_feasible, step_lawful}
+use Rattle.cycle_laws.proofs.Kept.{IsSound, path_sound}
 use Rattle.cycle_laws.proofs.Steps.{step_of}
 use Rattle.pivot_laws.proofs.PathBound.{path_bound}
 
@@ -33,16 +33,6 @@ record Part (s : Std) (k : ℕ) (e : Dictionary) : Type 0 where
   relaxes : Relaxes s first
   constants : HasFeasibleConstants first
   path : ExactPath first k e
-
-record IsSound (e : Dictionary) : Type 0 where
-  lawful : IsLawful e
-  constants : HasFeasibleConstants e
-
-path_sound : {d e : Dictionary} {k : ℕ} → IsLawful d → HasFeasibleConstants d → ExactPath d k e → IsSound e
-path_sound lawful constants here = record { lawful = lawful; constants = constants }
-path_sound lawful constants (further {e = e} {f = f} path step) =
-    let before = path_sound lawful constants path in
-    record { lawful = step_lawful e f before.lawful step; constants = step_feasible e f before.lawful before.constants step }
 
 part_sound : (s : Std) (k : ℕ) (e : Dictionary) → Part s k e → IsSound e
 part_sound s k e part = path_sound part.relaxes.lawful part.constants part.path

@@ -1,5 +1,5 @@
 //! How long the path of pivots is.
-ghost use Rattle.std.specs.Prelude.{◌≡◌, ◌+◌, ◌<◌, ℕ, All, ◌++◌, length};
+ghost use Rattle.std.specs.Prelude.{◌<◌, ℕ, All, ◌++◌, length};
 ghost use Rattle.dictionary.specs.declared.standard.Std.{Std};
 ghost use Rattle.dictionary.specs.Dictionary.{Dictionary, IsUniform, opening};
 ghost use Rattle.dictionary.specs.ExactPath.{ExactPath};
