@@ -56,7 +56,7 @@ impl Bounds {
     }
 
     /// The variable's own bounds, with those that its kind adds.
-    fn of_var(var: &Var) -> Bounds
+    pub(crate) fn of_var(var: &Var) -> Bounds
         ensures { result ≡ own_bounds var.now }
     {
         Bounds::of(var.lower, var.upper).both(&Bounds::of_kind(var.kind))

@@ -57,7 +57,7 @@ fn certificate(
     look(Place::Shape, has_shape(m, o, cert))?;
     let bounds = own_bounds(alloc, m.vars.as_slice())?;
     if let Some(point) = &o.point {
-        point_looks(m, bounds.as_slice(), point)?;
+        point_looks(m, point)?;
     }
     match cert {
         Cert::Nothing => Ok(()),

@@ -12,6 +12,7 @@ mod checking;
 mod claim;
 mod failure;
 mod items;
+mod kinds;
 mod leaf;
 mod point;
 mod ray;

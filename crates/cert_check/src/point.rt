@@ -2,29 +2,29 @@
 ghost use Rattle.std.specs.Prelude.{◌≡◌, ◌<◌, ◌≤◌, ◌^◌, [], ◌∷◌, All, length, map, zip};
 ghost use Rattle.std.specs.List.{enumerate_from};
 ghost use Rattle.model_data.specs.Lawful.{IsLawful};
-ghost use Rattle.solve_defs.specs.Bounds.{effective_bounds};
 ghost use Rattle.solve_defs.specs.Certificates.{point_bound, point_integer, point_looks, point_row, point_value};
 ghost use Rattle.solve_defs.specs.Looks.{verdict_of};
 ghost use Rattle.cert_check.specs.Found.{verdict_by};
 
 use crate::bounds::Bounds;
 use crate::failure::{Failure, look};
-use crate::values::{compares, is_integer, is_same, is_whole, objective_sum, row_sum};
+use crate::kinds::{is_in_range, is_whole_if_asked};
+use crate::values::{compares, is_same, objective_sum, row_sum};
 use frac128::Frac;
 use model_data::{Model, Point, Row, Var};
 use solve_defs::Place;
 
 /// Each row, each bound, each integer variable, and the value.
-pub(crate) fn point_looks(m: &Model, bounds: &[Bounds], point: &Point) -> Result<(), Failure>
+pub(crate) fn point_looks(m: &Model, point: &Point) -> Result<(), Failure>
     requires lawful { IsLawful m.now }
     requires values { length point.now.xs ≡ length m.now.vars }
-    requires bounds { bounds.now ≡ effective_bounds m.now [] }
     ensures { verdict_by result ≡ verdict_of (point_looks m.now (Some point.now)) }
 {
+    let vars = m.vars.as_slice();
     let xs = point.xs.as_slice();
     rows(m.rows.as_slice(), xs)?;
-    each_bound(bounds, xs)?;
-    integers(m.vars.as_slice(), xs)?;
+    each_bound(vars, xs)?;
+    integers(vars, xs)?;
     value(m, point)
 }
 
@@ -47,13 +47,17 @@ fn row_look(number: u32, row: &Row, xs: &[Frac]) -> Result<(), Failure>
     look(Place::PointRow(number), compares(row.sense, &sum, &row.rhs))
 }
 
-fn each_bound(bounds: &[Bounds], xs: &[Frac]) -> Result<(), Failure>
+fn each_bound(vars: &[Var], xs: &[Frac]) -> Result<(), Failure>
     requires few { length xs.now < 2 ^ 32 }
-    requires sizes { length bounds.now ≡ length xs.now }
-    ensures { verdict_by result ≡ verdict_of (map point_bound (enumerate_from 1 (zip bounds.now xs.now))) }
+    requires sizes { length vars.now ≡ length xs.now }
+    ensures { verdict_by result ≡ verdict_of (map point_bound (enumerate_from 1 (zip vars.now xs.now))) }
 {
     for (place, x) in xs.iter().enumerate() {
-        look(Place::PointBound(place as u32 + 1), bounds[place].has(x))?;
+        let var = &vars[place];
+        look(
+            Place::PointBound(place as u32 + 1),
+            is_in_range(var.kind, &Bounds::of_var(var), x),
+        )?;
     }
     Ok(())
 }
@@ -66,7 +70,7 @@ fn integers(vars: &[Var], xs: &[Frac]) -> Result<(), Failure>
     for (place, x) in xs.iter().enumerate() {
         look(
             Place::PointInteger(place as u32 + 1),
-            !is_integer(vars[place].kind) || is_whole(x),
+            is_whole_if_asked(vars[place].kind, x),
         )?;
     }
     Ok(())

@@ -2,11 +2,10 @@
 ghost use Rattle.std.specs.Prelude.{◌≡◌, List};
 ghost use Rattle.std.specs.List.{list_all, list_any};
 ghost use Rattle.solve_defs.specs.Certificates.{are_weights_for, are_whole, has_shape, is_bound, is_certificate_for, is_integer_number, is_node_for, is_number_to, is_point_for};
-ghost use Rattle.solve_defs.specs.Values.{has_integers};
 ghost use Rattle.model_data.specs.declared.solution.Cert.TheVariants.{Ray, Tree};
 ghost use Rattle.cert_check.specs.Shapes.{goes_with_tree};
 
-use crate::values::is_integer;
+use crate::kinds::{are_continuous, is_integer};
 use base_names::Seq;
 use frac128::{Frac, LIMIT};
 use model_data::{Cert, CertNode, Model, Outcome, Point, Var, Weight, Weights};
@@ -43,7 +42,7 @@ fn is_ray_for(m: &Model, o: &Outcome, point: &Seq<Frac>, ray: &Seq<Frac>) -> boo
 {
     o.status == UNBOUNDED
         && o.point.is_none()
-        && !has_integers(m)
+        && are_continuous(m.vars.as_slice())
         && point.len() == m.vars.len()
         && ray.len() == m.vars.len()
 }
@@ -59,12 +58,6 @@ fn goes_with_tree(o: &Outcome, nodes: &[CertNode]) -> bool
 {
     (o.status == OPTIMAL && o.point.is_some())
         || (o.status == INFEASIBLE && o.point.is_none() && !has_bound(nodes))
-}
-
-fn has_integers(m: &Model) -> bool
-    ensures { result ≡ has_integers m.now }
-{
-    m.vars.as_slice().iter().any(|var| is_integer(var.kind))
 }
 
 /// Whether some leaf is bounded by a value.

@@ -2,14 +2,13 @@
 ghost use Rattle.std.specs.Prelude.{◌≡◌, ◌<◌, All, length};
 ghost use Rattle.frac128.specs.Checked.{less_product, plus_product};
 ghost use Rattle.frac128.specs.Fraction.{zero_value};
-ghost use Rattle.model_data.specs.Size.{is_integer};
 ghost use Rattle.solve_defs.specs.Certificates.{compares, is_negative_or_zero, is_positive_or_zero, row_steps};
 ghost use Rattle.solve_defs.specs.Looks.{formed};
 ghost use Rattle.solve_defs.specs.Values.{is_at_most, is_below, is_same, is_whole, turned};
 ghost use Rattle.cert_check.specs.Sums.{terms_at};
 
 use frac128::{Frac, Wide};
-use model_data::{Direction, Sense, Term, Var, VarKind};
+use model_data::{Direction, Sense, Term, Var};
 
 pub(crate) fn is_at_most(x: &Frac, y: &Frac) -> bool
     ensures { result ≡ is_at_most x.now y.now }
@@ -47,15 +46,6 @@ pub(crate) fn is_whole(x: &Frac) -> bool
     ensures { result ≡ is_whole x.now }
 {
     x.den() == 1
-}
-
-pub(crate) fn is_integer(kind: VarKind) -> bool
-    ensures { result ≡ is_integer kind }
-{
-    match kind {
-        VarKind::Continuous => false,
-        VarKind::Integer | VarKind::Binary => true,
-    }
 }
 
 /// How a row compares a sum with its right side.

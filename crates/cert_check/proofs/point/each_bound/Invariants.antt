@@ -6,4 +6,4 @@ use Rattle.cert_check.proofs.point.each_bound.Given as goal
 
 abbrev pub invariant-loop-place : goal.invariant-loop-place
 invariant-loop-place l =
-    verdict_of (map point_bound (enumerate_from (l.place + 1) (zip (drop l.place l.bounds) (drop l.place l.xs)))) ≡ verdict_of (map point_bound (enumerate_from 1 (zip l.bounds l.xs)))
+    verdict_of (map point_bound (enumerate_from (l.place + 1) (zip (drop l.place l.vars) (drop l.place l.xs)))) ≡ verdict_of (map point_bound (enumerate_from 1 (zip l.vars l.xs)))
