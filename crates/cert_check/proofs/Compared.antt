@@ -1,6 +1,7 @@
 -- Sums that are formed side by side are held against the coefficients as they are where each is formed by itself.
-use Rattle.std.proofs.Common.{◌≡◌, ◌∙◌, refl, sym, ap, subst, ℕ, zero, suc, ◌+◌, ◌<◌, List, [], ◌∷◌, length, map, Result, Ok, Err, arith}
-use Rattle.std.proofs.lemmas.List.{length-map}
+use Rattle.std.proofs.Common.{◌≡◌, ◌∙◌, refl, sym, ap, ap₂, subst, ⊎_elim, ℕ, zero, suc, ◌+◌, ◌<◌, List, [], ◌∷◌, ◌++◌, length, map, drop, get_or, replicate, slice_set, Result, Ok, Err, arith}
+use Rattle.std.proofs.lemmas.Bool.{cases_Bool}
+use Rattle.std.proofs.lemmas.List.{drop_more, length-map}
 use Rattle.frac128.specs.Fraction.{Fraction, zero_value}
 use Rattle.model_data.specs.Lawful.{IsLawful}
 use Rattle.model_data.specs.declared.model.Model.{Model}
@@ -9,12 +10,17 @@ use Rattle.model_data.specs.declared.solution.Weights.{Weights}
 use Rattle.solve_defs.specs.Certificates.{sum_steps, sums_from}
 use Rattle.solve_defs.specs.Looks.{Look, Step, after_look, formed, verdict_of}
 use Rattle.solve_defs.specs.Values.{is_same}
+use Rattle.solve_defs.specs.declared.verdict.Place.{Place}
 use Rattle.solve_defs.specs.declared.verdict.Place.TheVariants.{LeafSum}
 use Rattle.solve_defs.specs.declared.verdict.Verdict.{Verdict}
+use Rattle.solve_defs.specs.declared.verdict.Verdict.TheVariants.{Invalid, Valid}
+use Rattle.cert_check.specs.Found.{tested, verdict_by}
 use Rattle.cert_check.specs.Leaves.{Fit, claim_by, coef_by, compared, sum_look}
-use Rattle.cert_check.specs.Sums.{Sum, leaf_sums, sum_at}
+use Rattle.cert_check.specs.Sums.{Sum, leaf_sums, no_sum, sum_at}
 use Rattle.cert_check.specs.declared.claim.Claim.{Claim as Claimed}
 use Rattle.cert_check.specs.declared.claim.Claim.TheVariants.{NoPoint, NoneBetter}
+use Rattle.cert_check.specs.declared.failure.Failure.{Failure}
+use Rattle.cert_check.proofs.Verdicts.{not_valid}
 use Rattle.cert_check.proofs.SumsFormed.{leaf_sums-at, length-leaf_sums}
 
 -- how the sum was formed doesn't matter
@@ -63,7 +69,7 @@ leaf_compared m leaf weights claim lawful fit =
     ∙ ap (λ (cs : List Fraction). verdict_of (sums_from m leaf weights 0 cs)) (coefs_are m claim)
   where
     sizes : length (leaf_sums m weights) ≡ length (map (coef_by m claim) m.vars)
-    sizes = length-leaf_sums m weights ∙ sym (length-map (coef_by m claim) m.vars)
+    sizes = length-leaf_sums m weights ∙ sym (length-map m.vars (coef_by m claim))
 
     from_zero : (j : ℕ) → j ≡ 0 + j
     from_zero j = omega arith
@@ -72,3 +78,56 @@ leaf_compared m leaf weights claim lawful fit =
     each j within =
         leaf_sums-at m weights j lawful fit (subst (λ n. j < n) (length-leaf_sums m weights) within)
         ∙ ap (λ (i : ℕ). formed zero_value (sum_steps m weights i (suc i))) (from_zero j)
+
+-- ---- one sum after the other
+
+-- a test that fails decides, and one that holds leaves it to the sums behind
+pub test_fails : (look : Look) (sum : Fraction) (later : Verdict) (failed : Failure) → verdict_by {A = Unit {0}} (Err failed) ≡ tested (look.holds sum) look.place
+    → verdict_by {A = Unit {0}} (Err failed) ≡ after_look look (Ok sum) later
+test_fails look sum later failed is =
+    ⊎_elim {C = verdict_by {A = Unit {0}} (Err failed) ≡ after_look look (Ok sum) later} (λ e. absurd (not_valid failed (is ∙ rw e refl))) (λ e. is ∙ rw e refl) (cases_Bool (look.holds sum))
+
+pub test_holds : (look : Look) (sum : Fraction) (later : Verdict) → Valid ≡ tested (look.holds sum) look.place → after_look look (Ok sum) later ≡ later
+test_holds look sum later is =
+    ⊎_elim {C = after_look look (Ok sum) later ≡ later} (λ e. rw e refl) (λ e. absurd (invalid look.place (is ∙ rw e refl))) (cases_Bool (look.holds sum))
+  where
+    invalid : (place : Place) → Valid ≡ Invalid place → ⊥
+    invalid place e = absurd cc
+
+-- the sums from a place on
+pub compared_more : (leaf i : ℕ) (sums : List Sum) (coefs : List Fraction) (coef : Fraction) → i < length sums → i < length coefs → coef ≡ get_or coefs i coef
+    → compared leaf i (drop i sums) (drop i coefs) ≡ after_look (sum_look leaf i coef) (sum_at sums i) (compared leaf (i + 1) (drop (i + 1) sums) (drop (i + 1) coefs))
+compared_more leaf i sums coefs coef within among is =
+    ap₂ (compared leaf i) (drop_more sums i no_sum within) (drop_more coefs i coef among)
+    ∙ ap (λ (c : Fraction). after_look (sum_look leaf i c) (sum_at sums i) (compared leaf (suc i) (drop (i + 1) sums) (drop (i + 1) coefs))) (sym is)
+    ∙ ap (λ (k : ℕ). after_look (sum_look leaf i coef) (sum_at sums i) (compared leaf k (drop (i + 1) sums) (drop (i + 1) coefs))) next
+  where
+    next : suc i ≡ i + 1
+    next = omega arith
+
+-- ---- sums that are taken are 0 again
+
+past : (i : ℕ) → sum_at (replicate i no_sum ++ []) i ≡ no_sum
+past zero = refl
+past (suc i) = past i
+
+kept-at : (i : ℕ) (sums : List Sum) → sum_at (replicate i no_sum ++ drop i sums) i ≡ sum_at sums i
+kept-at zero sums = refl
+kept-at (suc i) [] = past i
+kept-at (suc i) (s ∷ sums) = kept-at i sums
+
+pub taken-at : (i : ℕ) (now sums : List Sum) → now ≡ replicate i no_sum ++ drop i sums → sum_at now i ≡ sum_at sums i
+taken-at i now sums is = ap (λ (ss : List Sum). sum_at ss i) is ∙ kept-at i sums
+
+set_next : (i : ℕ) (sums : List Sum) → i < length sums → slice_set (replicate i no_sum ++ drop i sums) i no_sum ≡ replicate (suc i) no_sum ++ drop (suc i) sums
+set_next i [] within = absurd (omega (arith, within))
+set_next zero (s ∷ sums) within = refl
+set_next (suc i) (s ∷ sums) within = ap (λ (ss : List Sum). no_sum ∷ ss) (set_next i sums (omega (arith, within)))
+
+pub taken_next : (i : ℕ) (now sums : List Sum) → i < length sums → now ≡ replicate i no_sum ++ drop i sums
+    → slice_set now i no_sum ≡ replicate (i + 1) no_sum ++ drop (i + 1) sums
+taken_next i now sums within is =
+    ap (λ (ss : List Sum). slice_set ss i no_sum) is ∙ set_next i sums within ∙ ap (λ (k : ℕ). replicate k no_sum ++ drop k sums) next
+  where
+    next : suc i ≡ i + 1
+    next = omega arith

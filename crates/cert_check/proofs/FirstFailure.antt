@@ -36,8 +36,8 @@ data Sorted (look : Look) : Type 0 where
 sorted_by : (look : Look) → TriedAll look.start look.steps → Sorted look
 sorted_by look (all_fit fits) =
     ⊎_elim (λ e. passes (fits, e)) (λ e. fails (record { here = refl; fits = fits; fails = λ (h : Holds look). true≢false (sym h ∙ e) })) (cases_Bool (look.holds (total_of look.start look.steps)))
-sorted_by look (first_refused no) =
-    refuses no.wide (record { before = no.before; step = no.step; after = no.after; parts = no.parts; fit = no.fit; here = no.here })
+sorted_by look (first_refused refusal) =
+    refuses refusal.wide (record { before = refusal.before; step = refusal.step; after = refusal.after; parts = refusal.parts; fit = refusal.fit; here = refusal.here })
 
 sorted : (look : Look) → Sorted look
 sorted look = sorted_by look (tried_all look.start look.steps)

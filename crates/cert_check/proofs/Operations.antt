@@ -77,21 +77,21 @@ pub data Tried (total : Fraction) (step : Step) : Type 0 where
 
 tried_sum : (total x : Fraction) (r : Result Fraction Wide) → checked_sum total x ≡ r → Tried total (plus x)
 tried_sum total x (Ok next) h = fit (formed_by (sum_fits total x) (exact_sum total x) Add total x next h).fit
-tried_sum total x (Err wide) h = let no = refused_by (sum_fits total x) (exact_sum total x) Add total x wide h in refused wide (no.no_fit, no.same)
+tried_sum total x (Err wide) h = let refusal = refused_by (sum_fits total x) (exact_sum total x) Add total x wide h in refused wide (refusal.no_fit, refusal.same)
 
 tried_difference : (total x : Fraction) (r : Result Fraction Wide) → checked_difference total x ≡ r → Tried total (minus x)
 tried_difference total x (Ok next) h = fit (formed_by (difference_fits total x) (exact_difference total x) Sub total x next h).fit
-tried_difference total x (Err wide) h = let no = refused_by (difference_fits total x) (exact_difference total x) Sub total x wide h in refused wide (no.no_fit, no.same)
+tried_difference total x (Err wide) h = let refusal = refused_by (difference_fits total x) (exact_difference total x) Sub total x wide h in refused wide (refusal.no_fit, refusal.same)
 
 with_product : (total x y : Fraction) (r : Result Fraction Wide) → checked_product x y ≡ r → Tried total (plus (exact_product x y)) → Tried total (plus_times x y)
 with_product total x y (Ok p) h (fit sum) = fit ((formed_by (product_fits x y) (exact_product x y) Mul x y p h).fit, sum)
 with_product total x y (Ok p) h (refused wide sum) = refused wide (inr ((formed_by (product_fits x y) (exact_product x y) Mul x y p h).fit, sum))
-with_product total x y (Err wide) h sum = let no = refused_by (product_fits x y) (exact_product x y) Mul x y wide h in refused wide (inl (no.no_fit, no.same))
+with_product total x y (Err wide) h sum = let refusal = refused_by (product_fits x y) (exact_product x y) Mul x y wide h in refused wide (inl (refusal.no_fit, refusal.same))
 
 less_product : (total x y : Fraction) (r : Result Fraction Wide) → checked_product x y ≡ r → Tried total (minus (exact_product x y)) → Tried total (minus_times x y)
 less_product total x y (Ok p) h (fit rest) = fit ((formed_by (product_fits x y) (exact_product x y) Mul x y p h).fit, rest)
 less_product total x y (Ok p) h (refused wide rest) = refused wide (inr ((formed_by (product_fits x y) (exact_product x y) Mul x y p h).fit, rest))
-less_product total x y (Err wide) h rest = let no = refused_by (product_fits x y) (exact_product x y) Mul x y wide h in refused wide (inl (no.no_fit, no.same))
+less_product total x y (Err wide) h rest = let refusal = refused_by (product_fits x y) (exact_product x y) Mul x y wide h in refused wide (inl (refusal.no_fit, refusal.same))
 
 tried : (total : Fraction) (step : Step) → Tried total step
 tried total (plus x) = tried_sum total x (checked_sum total x) refl
@@ -134,8 +134,8 @@ pub data TriedAll (start : Fraction) (steps : List Step) : Type 0 where
 
 behind_step : (start : Fraction) (step : Step) (steps : List Step) → Tried start step → TriedAll (moved start step) steps → TriedAll start (step ∷ steps)
 behind_step start step steps (fit own) (all_fit rest) = all_fit (own, rest)
-behind_step start step steps (fit own) (first_refused no) =
-    first_refused (record { wide = no.wide; before = step ∷ no.before; step = no.step; after = no.after; parts = ap (λ ss. step ∷ ss) no.parts; fit = (own, no.fit); here = no.here })
+behind_step start step steps (fit own) (first_refused refusal) =
+    first_refused (record { wide = refusal.wide; before = step ∷ refusal.before; step = refusal.step; after = refusal.after; parts = ap (λ ss. step ∷ ss) refusal.parts; fit = (own, refusal.fit); here = refusal.here })
 behind_step start step steps (refused wide own) rest =
     first_refused (record { wide = wide; before = []; step = step; after = steps; parts = refl; fit = tt; here = own })
 

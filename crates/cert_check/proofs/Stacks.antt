@@ -3,7 +3,7 @@ use Rattle.std.proofs.Common.{◌≡◌, ◌∙◌, refl, sym, ap, ap₂, subst,
 use Rattle.std.proofs.Math.ListN.{length-set}
 use Rattle.std.proofs.lemmas.List.{reverse-append}
 use Rattle.solve_defs.specs.Bounds.{Bounds}
-use Rattle.cert_check.specs.Cases.{AllWithin, Situation, waiting}
+use Rattle.cert_check.specs.Stack.{AllWithin, waiting}
 use Rattle.cert_check.specs.declared.cases.Entry.{Entry}
 use Rattle.cert_check.specs.declared.cases.Kept.{Kept}
 use Rattle.cert_check.specs.declared.cases.Kept.TheVariants.{Before, Waiting}

@@ -1,6 +1,7 @@
 -- Sums with more steps: how many there are, and the one of each place.
-use Rattle.std.proofs.Common.{◌≡◌, ◌∙◌, refl, ℕ, ◌-◌, List, [], ◌∷◌, length}
+use Rattle.std.proofs.Common.{◌≡◌, ◌∙◌, refl, sym, ap, ℕ, ◌+◌, ◌-◌, ◌<◌, List, [], ◌∷◌, length, drop, get_or, Option, Some}
 use Rattle.std.proofs.Math.ListN.{length-set}
+use Rattle.std.proofs.lemmas.List.{drop_more}
 use Rattle.frac128.specs.Fraction.{Fraction}
 use Rattle.model_data.specs.declared.model.Row.{Row}
 use Rattle.model_data.specs.declared.model.Term.{Term}
@@ -26,3 +27,13 @@ pub length-with_bounds : (step : Fraction → Step) (ws : List Weight) (sums : L
 length-with_bounds step [] sums = refl
 length-with_bounds step (w ∷ ws) sums =
     length-with_bounds step ws (with_step (w.place - 1) (step w.weight) sums) ∙ length-with_step (w.place - 1) (step w.weight) sums
+
+-- ---- rows, one by one
+
+pub row_more : (rows : List Row) (ws : List Weight) (i : ℕ) (w : Weight) (row : Row) (sums next : List Sum) → i < length ws → w ≡ get_or ws i w → nth rows w.place ≡ Some row
+    → next ≡ with_terms w.weight row.terms sums → with_rows rows (drop i ws) sums ≡ with_rows rows (drop (i + 1) ws) next
+row_more rows ws i w row sums next within is found made =
+    ap (λ (vs : List Weight). with_rows rows vs sums) (drop_more ws i w within)
+    ∙ ap (λ (v : Weight). with_rows rows (v ∷ drop (i + 1) ws) sums) (sym is)
+    ∙ ap (λ (o : Option Row). with_rows rows (drop (i + 1) ws) (with_terms w.weight (terms_of o) sums)) found
+    ∙ ap (with_rows rows (drop (i + 1) ws)) (sym made)

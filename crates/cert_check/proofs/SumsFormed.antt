@@ -34,11 +34,11 @@ all_refused wide (step ∷ steps) = all_refused wide steps
 
 all_formed : (total : Fraction) (steps : List Step) → all_steps (Ok total) steps ≡ formed total steps
 all_formed total [] = refl
-all_formed total (step ∷ steps) = behind_first (checked_step total step)
+all_formed total (step ∷ steps) = behind_first (checked_step total step) (λ next. all_formed next steps)
   where
-    behind_first : (first : Sum) → all_steps first steps ≡ first >>= λ next. formed next steps
-    behind_first (Ok next) = all_formed next steps
-    behind_first (Err wide) = all_refused wide steps
+    behind_first : (first : Sum) → ((next : Fraction) → all_steps (Ok next) steps ≡ formed next steps) → all_steps first steps ≡ first >>= λ next. formed next steps
+    behind_first (Ok next) rest = rest next
+    behind_first (Err wide) rest = all_refused wide steps
 
 all_append : (sum : Sum) (xs ys : List Step) → all_steps sum (xs ++ ys) ≡ all_steps (all_steps sum xs) ys
 all_append sum [] ys = refl
@@ -103,10 +103,14 @@ terms-at weight (t ∷ terms) sums j rises within =
 
 -- ---- the rows with their weights
 
-none : (n : ℕ) → Rises [] × All (λ t. t.var < n) []
+-- what holds of terms of a model with so many variables
+abbrev AreTerms : ℕ → List Term → Type 0
+AreTerms n terms = Rises terms × All (λ t. t.var < n) terms
+
+none : (n : ℕ) → AreTerms n []
 none n = (λ i j d less within. absurd (omega (arith, within)), λ k d within. absurd (omega (arith, within)))
 
-terms_are : (n : ℕ) (rows : List Row) (number : ℕ) → All (IsLawfulRow n) rows → Rises (terms_of (nth rows number)) × All (λ t. t.var < n) (terms_of (nth rows number))
+terms_are : (n : ℕ) (rows : List Row) (number : ℕ) → All (IsLawfulRow n) rows → AreTerms n (terms_of (nth rows number))
 terms_are n rows zero lawful = none n
 terms_are n [] (suc place) lawful = none n
 terms_are n (row ∷ rows) (suc zero) lawful = let own = All-head (IsLawfulRow n) row rows lawful in (own.rising, own.places)
@@ -129,7 +133,7 @@ rows-at rows (w ∷ ws) sums j lawful =
     next : List Sum
     next = with_terms w.weight terms sums
 
-    are : Rises terms × All (λ t. t.var < length sums) terms
+    are : AreTerms (length sums) terms
     are = terms_are (length sums) rows w.place lawful
 
 -- ---- the bounds with their weights

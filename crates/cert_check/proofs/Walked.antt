@@ -16,7 +16,7 @@ use Rattle.solve_defs.specs.Looks.{Look, verdict_of}
 use Rattle.solve_defs.specs.declared.cut.Cut.{Cut}
 use Rattle.solve_defs.specs.declared.verdict.Verdict.{Verdict}
 use Rattle.solve_defs.specs.declared.verdict.Verdict.TheVariants.{Valid}
-use Rattle.cert_check.specs.Cases.{Begins, Open, Situation}
+use Rattle.cert_check.specs.Open.{Begins, Open, Situation}
 use Rattle.cert_check.specs.Found.{verdict_by}
 use Rattle.cert_check.specs.Leaves.{looks_within}
 use Rattle.cert_check.specs.Sums.{no_sum}

@@ -1,8 +1,9 @@
 pub mod Countable
 pub mod Failures
 pub mod Found
-pub mod Sums
-pub mod Shapes
 pub mod Leaves
-pub mod Cases
+pub mod Open
+pub mod Shapes
+pub mod Stack
+pub mod Sums
 pub mod Walks

@@ -13,7 +13,7 @@ use Rattle.solve_defs.specs.Looks.{Look, verdict_of}
 use Rattle.solve_defs.specs.declared.cut.Cut.{Cut}
 use Rattle.solve_defs.specs.declared.verdict.Verdict.{Verdict}
 use Rattle.solve_defs.specs.declared.verdict.Verdict.TheVariants.{Valid}
-use Rattle.cert_check.specs.Cases.{Situation}
+use Rattle.cert_check.specs.Open.{Situation}
 use Rattle.cert_check.specs.Found.{verdict_by}
 use Rattle.cert_check.specs.Sums.{no_sum}
 use Rattle.cert_check.specs.declared.cases.Entry.{Entry}

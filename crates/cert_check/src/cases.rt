@@ -5,7 +5,7 @@
 //! depth, and nothing here goes down it by calls.
 ghost use Rattle.std.specs.Prelude.{◌≡◌, ◌<◌, [], ◌∷◌, IfOk, length, OnOk, slice_index_or, slice_set};
 ghost use Rattle.solve_defs.specs.Bounds.{both};
-ghost use Rattle.cert_check.specs.Cases.{Begins};
+ghost use Rattle.cert_check.specs.Open.{Begins};
 ghost use Rattle.cert_check.specs.declared.cases.Entry.TheVariants.{Here as here};
 
 use crate::bounds::Bounds;
@@ -37,7 +37,8 @@ pub(crate) struct Cases {
 }
 
 impl Model for Cases {
-    ghost use Rattle.cert_check.specs.Cases.{IsStacked, Open, open_of};
+    ghost use Rattle.cert_check.specs.Open.{Open};
+    ghost use Rattle.cert_check.specs.Stack.{IsStacked, open_of};
 
     ghost Value = { Open };
 

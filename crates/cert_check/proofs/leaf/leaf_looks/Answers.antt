@@ -1,4 +1,4 @@
-use Rattle.std.proofs.Common.{rules, ◌≡◌, ◌∙◌, ap, List, [], ◌∷◌, ◌++◌, map}
+use Rattle.std.proofs.Common.{rules, ◌≡◌, ◌∙◌, ap, List, [], ◌∷◌, ◌++◌, length, map}
 use Rattle.std.specs.Result.{IsErr}
 use Rattle.solve_defs.specs.Certificates.{sign_looks, sums_from}
 use Rattle.solve_defs.specs.Looks.{Look, verdict_of}
@@ -7,8 +7,12 @@ use Rattle.cert_check.specs.Found.{verdict_by}
 use Rattle.cert_check.specs.Leaves.{claim_by, coef_by, compared, side_look}
 use Rattle.cert_check.specs.Sums.{Sum, leaf_sums}
 use Rattle.cert_check.proofs.Compared.{leaf_compared}
+use Rattle.cert_check.proofs.SumsFormed.{length-leaf_sums}
 use Rattle.cert_check.proofs.Verdicts.{behind, stays}
 use Rattle.cert_check.proofs.leaf.leaf_looks.Goals as goal
+
+pub sum_looks-requires-clause-sizes : goal.sum_looks-requires-clause-sizes
+sum_looks-requires-clause-sizes c = ap length c.add.ensures ∙ length-leaf_sums c.args.m.now c.args.weights.now
 
 pub returns-in_err-signs-clause-looks : goal.returns-in_err-signs-clause-looks
 returns-in_err-signs-clause-looks c =

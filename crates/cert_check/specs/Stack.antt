@@ -1,20 +1,10 @@
--- The case under way, and those that wait on a stack.
-use Rattle.std.specs.Prelude.{◌≡◌, ℕ, ◌<◌, List, [], ◌∷◌, length, reverse, slice_set, Option, Some, None}
+-- The cases that wait, on a stack.
+use Rattle.std.specs.Prelude.{ℕ, ◌<◌, List, [], ◌∷◌, length, reverse, slice_set}
 use Rattle.solve_defs.specs.Bounds.{Bounds}
+use Rattle.cert_check.specs.Open.{Open, Situation}
 use Rattle.cert_check.specs.declared.cases.Cases.{Cases}
-use Rattle.cert_check.specs.declared.cases.Entry.{Entry}
 use Rattle.cert_check.specs.declared.cases.Kept.{Kept}
 use Rattle.cert_check.specs.declared.cases.Kept.TheVariants.{Before, Waiting}
-
--- a case that waits: the bounds that it begins with, and what comes on top of them
-pub record Situation : Type 0 where
-  pub bounds : List Bounds
-  pub entry : Entry
-
--- the bounds in the case under way, and the cases that are to come, the next one first
-pub record Open : Type 0 where
-  pub bounds : List Bounds
-  pub later : List Situation
 
 -- The cases that wait, the next one first, where these are the bounds above what is kept, and the top stands first.
 abbrev pub waiting : List Bounds → List Kept → List Situation
@@ -36,10 +26,3 @@ AllWithin count (top ∷ kept) = StoodWithin count top × AllWithin count kept
 
 abbrev pub IsStacked : Cases → Type 0
 IsStacked c = AllWithin (length c.bounds.items) (reverse c.kept.items)
-
--- the next case begins, where one is to come
-abbrev pub Begins : List Situation → Option Entry → Open → Type 0
-Begins [] None new = new.later ≡ []
-Begins [] (Some entry) new = ⊥
-Begins (next ∷ later) None new = ⊥
-Begins (next ∷ later) (Some entry) new = (entry ≡ next.entry) × (new ≡ record { bounds = next.bounds; later = later })
