@@ -18,7 +18,7 @@ fn list(alloc: Global, ratios: &[Ratio]) -> Result<Seq<Frac>, Fail> {
 }
 
 /// A program of coefficients and right sides by row, and of the objective, whose constant is last.
-fn program(alloc: Global, rows: &[[Ratio; 3]], obj: [Ratio; 3]) -> Result<Std, Fail> {
+pub(crate) fn program(alloc: Global, rows: &[[Ratio; 3]], obj: [Ratio; 3]) -> Result<Std, Fail> {
     let mut all = Vec::new(alloc);
     for row in rows {
         all.push(StdRow {

@@ -1,7 +1,9 @@
-//! Tests of `dictionary` and `std_form`. They stand here, since a crate with tests of its own is proved twice.
+//! Tests of `dictionary`, `std_form`, `simplex_rule` and `lp_certs`. They stand here, since a crate with tests of its own is proved twice.
 #![tactic(auto)]
 
 #[cfg(test)]
 mod dictionaries;
+#[cfg(test)]
+mod relaxations;
 #[cfg(test)]
 mod standard_forms;
