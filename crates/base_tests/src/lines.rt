@@ -7,7 +7,6 @@ use base_io::{
 };
 use base_names::{NoMemory, Text};
 use std::alloc::Global;
-use std::test::Fail;
 
 /// Gives its bytes one by one, and tells nothing.
 #[derive(Drop)]
@@ -113,133 +112,145 @@ fn show_block<S: Source>(
     show(out, piece)
 }
 
-#[test]
-fn lines_end(rt: HostRuntime) -> Result<(), Fail> {
-    let alloc = rt.alloc();
-    let rows: [(&[u8], &[u8]); 9] = [
-        (b"", b"..."),
-        (b"\n", b"|.."),
-        (b"one", b"one|.."),
-        (b"one\n", b"one|.."),
-        (b"one\r\ntwo\n", b"one|two|."),
-        (b"one\r", b"one\r|.."),
-        (b"a\rb\r\r\nc", b"a\rb\r|c|."),
-        (b"\r\n\n\r\n", b"|||"),
-        (b"a\n\nc\r\nd", b"a||c|"),
-    ];
-    for (input, want) in rows {
-        let mut source = MemSource::new(input.to_vec(alloc)?, Vec::new(alloc));
-        let got = lines_of(alloc, &mut source, 3)?;
-        assert_eq!(rt; got.as_slice(), want);
-        let mut drip = Drip {
-            bytes: input.to_vec(alloc)?,
-            at: 0,
-        };
-        let got = lines_of(alloc, &mut drip, 3)?;
-        assert_eq!(rt; got.as_slice(), want);
-    }
-    Ok(())
+/// Inputs, with their first three lines.
+const LINES: &[(&[u8], &[u8])] = &[
+    (b"", b"..."),
+    (b"\n", b"|.."),
+    (b"one", b"one|.."),
+    (b"one\n", b"one|.."),
+    (b"one\r\ntwo\n", b"one|two|."),
+    (b"one\r", b"one\r|.."),
+    (b"a\rb\r\r\nc", b"a\rb\r|c|."),
+    (b"\r\n\n\r\n", b"|||"),
+    (b"a\n\nc\r\nd", b"a||c|"),
+];
+
+/// Three lines, where the calls fail that are listed.
+fn gives(alloc: Global, input: &[u8], failing: &[u64], want: &[u8]) -> Result<bool, NoMemory> {
+    let mut source = MemSource::new(input.to_vec(alloc)?, failing.to_vec(alloc)?);
+    Ok(lines_of(alloc, &mut source, 3)?.as_slice() == want)
+}
+
+fn drips(alloc: Global, input: &[u8], want: &[u8]) -> Result<bool, NoMemory> {
+    let mut drip = Drip {
+        bytes: input.to_vec(alloc)?,
+        at: 0,
+    };
+    Ok(lines_of(alloc, &mut drip, 3)?.as_slice() == want)
 }
 
 #[test]
-fn a_failing_read_loses_nothing(rt: HostRuntime) -> Result<(), Fail> {
-    let alloc = rt.alloc();
-    for (call, want) in [
-        (1, b"?one|two|".as_slice()),
-        (2, b"one|?two|"),
-        (3, b"one|two|."),
-    ] {
-        let failing = [call].to_vec(alloc)?;
-        let mut source = MemSource::new(b"one\ntwo".to_vec(alloc)?, failing);
-        let got = lines_of(alloc, &mut source, 3)?;
-        assert_eq!(rt; got.as_slice(), want, "at {call}");
+fn lines_end(rt: HostRuntime) {
+    for (input, want) in LINES {
+        assert!(rt; gives(rt.alloc(), input, &[], want) == Ok(true));
+        assert!(rt; drips(rt.alloc(), input, want) == Ok(true));
     }
-    Ok(())
 }
 
 #[test]
-fn long_lines(rt: HostRuntime) -> Result<(), Fail> {
+fn a_failing_read_loses_nothing(rt: HostRuntime) {
     let alloc = rt.alloc();
-    let rows: [(usize, &[u8], usize, u8); 7] = [
-        (LINE_LIMIT, b"\n", LINE_LIMIT + 2, b'.'),
-        (LINE_LIMIT, b"\r\n", LINE_LIMIT + 2, b'.'),
-        (LINE_LIMIT, b"", LINE_LIMIT + 2, b'.'),
-        (LINE_LIMIT, b"\r", 2, b'!'),
-        (LINE_LIMIT, b"x\n", 2, b'!'),
-        (LINE_LIMIT, b"\r\r\n", 2, b'!'),
-        (LINE_LIMIT, b"x", 2, b'!'),
-    ];
-    for (len, end, want, last) in rows {
-        let mut input = vec![in alloc; b'x'; len]?;
-        input.extend_from_slice(end)?;
-        let mut source = MemSource::new(input, Vec::new(alloc));
-        let got = lines_of(alloc, &mut source, 2)?;
-        assert_eq!(rt; got.len(), want);
-        assert_eq!(rt; got.last(), Some(&last));
-    }
-    Ok(())
+    assert!(rt; gives(alloc, b"one\ntwo", &[1], b"?one|two|") == Ok(true));
+    assert!(rt; gives(alloc, b"one\ntwo", &[2], b"one|?two|") == Ok(true));
+    assert!(rt; gives(alloc, b"one\ntwo", &[3], b"one|two|.") == Ok(true));
+}
+
+/// What two lines of so many bytes and this end are, by its length and its last byte.
+fn is_long(alloc: Global, len: usize, end: &[u8], want: usize, last: u8) -> Result<bool, NoMemory> {
+    let mut input = vec![in alloc; b'x'; len]?;
+    input.extend_from_slice(end)?;
+    let mut source = MemSource::new(input, Vec::new(alloc));
+    let got = lines_of(alloc, &mut source, 2)?;
+    Ok(got.len() == want && got.last() == Some(&last))
 }
 
 #[test]
-fn blocks(rt: HostRuntime) -> Result<(), Fail> {
-    let alloc = rt.alloc();
-    let rows: [(&[u8], [u32; 3], u64, &[u8]); 5] = [
-        (b"a\nbcdef", [0, 2, 3], 9, b"a||bc|def|"),
-        (b"a\n\nb\n", [1, 2, 0], 9, b"a|\n|b\n||"),
-        (b"a\nbc", [3, 2, 1], 9, b"a|.bc|."),
-        (b"a\nbc", [3, 3, 2], 2, b"a|?.bc|"),
-        (b"a", [0, 1, 0], 9, b"a||.|"),
-    ];
-    for (input, sizes, call, want) in rows {
-        let mut source = MemSource::new(input.to_vec(alloc)?, [call].to_vec(alloc)?);
-        let got = blocks_of(alloc, &mut source, &sizes)?;
-        assert_eq!(rt; got.as_slice(), want);
-    }
-    Ok(())
+fn long_lines(rt: HostRuntime) {
+    let (alloc, whole) = (rt.alloc(), LINE_LIMIT + 2);
+    assert!(rt; is_long(alloc, LINE_LIMIT, b"\n", whole, b'.') == Ok(true));
+    assert!(rt; is_long(alloc, LINE_LIMIT, b"\r\n", whole, b'.') == Ok(true));
+    assert!(rt; is_long(alloc, LINE_LIMIT, b"", whole, b'.') == Ok(true));
+    assert!(rt; is_long(alloc, LINE_LIMIT, b"\r", 2, b'!') == Ok(true));
+    assert!(rt; is_long(alloc, LINE_LIMIT, b"x\n", 2, b'!') == Ok(true));
+    assert!(rt; is_long(alloc, LINE_LIMIT, b"\r\r\n", 2, b'!') == Ok(true));
+    assert!(rt; is_long(alloc, LINE_LIMIT, b"x", 2, b'!') == Ok(true));
 }
 
-#[test]
-fn a_long_block(rt: HostRuntime) -> Result<(), Fail> {
-    let alloc = rt.alloc();
+/// Inputs, the sizes of the blocks behind their first line, the call that fails, and what comes.
+const BLOCKS: &[(&[u8], &[u32], u64, &[u8])] = &[
+    (b"a\nbcdef", &[0, 2, 3], 9, b"a||bc|def|"),
+    (b"a\n\nb\n", &[1, 2, 0], 9, b"a|\n|b\n||"),
+    (b"a\nbc", &[3, 2, 1], 9, b"a|.bc|."),
+    (b"a\nbc", &[3, 3, 2], 2, b"a|?.bc|"),
+    (b"a", &[0, 1, 0], 9, b"a||.|"),
+];
+
+fn gives_blocks(
+    alloc: Global,
+    input: &[u8],
+    sizes: &[u32],
+    failing: u64,
+    want: &[u8],
+) -> Result<bool, NoMemory> {
+    let mut source = MemSource::new(input.to_vec(alloc)?, [failing].to_vec(alloc)?);
+    Ok(blocks_of(alloc, &mut source, sizes)?.as_slice() == want)
+}
+
+fn gives_a_long_block(alloc: Global) -> Result<bool, NoMemory> {
     let mut input = b"a\n".to_vec(alloc)?;
     input.extend_from_slice(vec![in alloc; b'x'; 200_000]?.as_slice())?;
     input.extend_from_slice(b"yz")?;
     let mut source = MemSource::new(input, Vec::new(alloc));
     let got = blocks_of(alloc, &mut source, &[200_000, 2, 1])?;
-    assert_eq!(rt; got.len(), 200_007);
-    assert!(rt; got.ends_with(b"xx|yz|."));
-    Ok(())
+    Ok(got.len() == 200_007 && got.ends_with(b"xx|yz|."))
 }
 
 #[test]
-fn a_line_comes_again(rt: HostRuntime) -> Result<(), Fail> {
-    let alloc = rt.alloc();
+fn blocks(rt: HostRuntime) {
+    for (input, sizes, failing, want) in BLOCKS {
+        assert!(rt; gives_blocks(rt.alloc(), input, sizes, *failing, want) == Ok(true));
+    }
+    assert!(rt; gives_a_long_block(rt.alloc()) == Ok(true));
+}
+
+/// A line that was given back, the first of the source, and how many bytes were taken for them.
+fn comes_again(alloc: Global) -> Result<bool, NoMemory> {
     let mut source = MemSource::new(b"one\n".to_vec(alloc)?, Vec::new(alloc));
     let mut reader = LineReader::new(alloc);
     let mut out = Vec::new(alloc);
     reader.again(Text::of(b"back".to_vec(alloc)?));
     show(&mut out, reader.line(alloc, &mut source)?)?;
     show(&mut out, reader.line(alloc, &mut source)?)?;
-    assert_eq!(rt; out.as_slice(), b"back|one|".as_slice());
-    assert_eq!(rt; reader.given(), 4);
-    Ok(())
+    Ok(out.as_slice() == b"back|one|".as_slice() && reader.given() == 4)
 }
 
 #[test]
-fn writes(rt: HostRuntime) -> Result<(), Fail> {
-    let alloc = rt.alloc();
+fn a_line_comes_again(rt: HostRuntime) {
+    assert!(rt; comes_again(rt.alloc()) == Ok(true));
+}
+
+fn puts(alloc: Global) -> Result<bool, NoMemory> {
     let mut sink = MemSink::new(alloc, [2].to_vec(alloc)?);
-    assert_eq!(rt; put(&mut sink, b"one"), Wrote::Done);
-    assert_eq!(rt; put(&mut sink, b""), Wrote::Done);
-    assert_eq!(rt; put(&mut sink, b"two"), Wrote::WriteFault);
-    assert_eq!(rt; put(&mut sink, b"two"), Wrote::Done);
-    assert_eq!(rt; sink.bytes().as_slice(), b"onetwo".as_slice());
-    assert_eq!(rt; sink.refused(), 0);
+    Ok(
+        put(&mut sink, b"one") == Wrote::Done
+            && put(&mut sink, b"") == Wrote::Done
+            && put(&mut sink, b"two") == Wrote::WriteFault
+            && put(&mut sink, b"two") == Wrote::Done
+            && sink.bytes().as_slice() == b"onetwo".as_slice()
+            && sink.refused() == 0,
+    )
+}
+
+fn sips(alloc: Global) -> bool {
     let mut sip = Sip {
         bytes: Vec::new(alloc),
         failed: 0,
     };
-    assert_eq!(rt; put(&mut &mut sip, b"three"), Wrote::Done);
-    assert_eq!(rt; sip.bytes.as_slice(), b"three".as_slice());
-    Ok(())
+    put(&mut &mut sip, b"three") == Wrote::Done && sip.bytes.as_slice() == b"three".as_slice()
+}
+
+#[test]
+fn writes(rt: HostRuntime) {
+    assert!(rt; puts(rt.alloc()) == Ok(true));
+    assert!(rt; sips(rt.alloc()));
 }

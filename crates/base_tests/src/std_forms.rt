@@ -1,8 +1,9 @@
 //! The forms over std, over a reader and a writer that are interrupted, fail, and move little at once.
 
 use base_io::{Got, LineReader, Piece, Sink, Source, StdSink, StdSource, Took, Wrote, put};
+use base_names::NoMemory;
+use std::alloc::Global;
 use std::io::{self, ErrorKind, Read, Write};
-use std::test::Fail;
 
 /// What one call does.
 #[derive(Clone, Copy)]
@@ -75,68 +76,86 @@ impl Write for Patchy {
     }
 }
 
-#[test]
-fn a_reader_of_std_is_passed_on(rt: HostRuntime) -> Result<(), Fail> {
-    let alloc = rt.alloc();
-    let calls = [
-        Call::Interrupted,
-        Call::AtMost(1),
-        Call::Interrupted,
-        Call::Interrupted,
-        Call::Broken,
-        Call::AtMost(2),
-    ];
-    let mut source = StdSource::new(Patchy::new(b"one\n".to_vec(alloc)?, calls.to_vec(alloc)?));
+const READING: &[Call] = &[
+    Call::Interrupted,
+    Call::AtMost(1),
+    Call::Interrupted,
+    Call::Interrupted,
+    Call::Broken,
+    Call::AtMost(2),
+];
+
+/// What each read gives, and what the buffer holds then.
+const READS: &[(Got, &[u8])] = &[
+    (Got::Bytes(1), b"o.."),
+    (Got::Failed, b"o.."),
+    (Got::Bytes(2), b"ne."),
+    (Got::Bytes(1), b"\ne."),
+    (Got::Bytes(0), b"\ne."),
+];
+
+fn is_passed_on(alloc: Global) -> Result<bool, NoMemory> {
+    let patchy = Patchy::new(b"one\n".to_vec(alloc)?, READING.to_vec(alloc)?);
+    let mut source = StdSource::new(patchy);
     let mut buf = [b'.'; 3];
-    for (want, holds) in [
-        (Got::Bytes(1), b"o..".as_slice()),
-        (Got::Failed, b"o.."),
-        (Got::Bytes(2), b"ne."),
-        (Got::Bytes(1), b"\ne."),
-        (Got::Bytes(0), b"\ne."),
-    ] {
-        assert_eq!(rt; source.read(&mut buf), want);
-        assert_eq!(rt; buf.as_slice(), holds);
+    for (want, holds) in READS {
+        if source.read(&mut buf) != *want || buf.as_slice() != *holds {
+            return Ok(false);
+        }
     }
-    Ok(())
+    Ok(true)
 }
 
 #[test]
-fn lines_come_of_a_reader_of_std(rt: HostRuntime) -> Result<(), Fail> {
-    let alloc = rt.alloc();
+fn a_reader_of_std_is_passed_on(rt: HostRuntime) {
+    assert!(rt; is_passed_on(rt.alloc()) == Ok(true));
+}
+
+fn is_line(piece: &Piece, text: &[u8]) -> bool {
+    matches!(piece, Piece::Line(line) if line.as_bytes() == text)
+}
+
+fn lines_come(alloc: Global) -> Result<bool, NoMemory> {
     let mut calls = [Call::AtMost(1); 4].to_vec(alloc)?;
     calls.extend_from_slice(&[Call::Interrupted, Call::Broken, Call::AtMost(1)])?;
     let mut source = StdSource::new(Patchy::new(b"one\ntwo".to_vec(alloc)?, calls));
     let mut reader = LineReader::new(alloc);
-    let one = reader.line(alloc, &mut source)?;
-    assert!(rt; matches!(&one, Piece::Line(line) if line.as_bytes() == b"one".as_slice()));
-    assert!(rt; matches!(reader.line(alloc, &mut source)?, Piece::ReadFault));
-    let two = reader.line(alloc, &mut source)?;
-    assert!(rt; matches!(&two, Piece::Line(line) if line.as_bytes() == b"two".as_slice()));
-    assert!(rt; matches!(reader.line(alloc, &mut source)?, Piece::End));
-    Ok(())
+    Ok(
+        is_line(&reader.line(alloc, &mut source)?, b"one")
+            && matches!(reader.line(alloc, &mut source)?, Piece::ReadFault)
+            && is_line(&reader.line(alloc, &mut source)?, b"two")
+            && matches!(reader.line(alloc, &mut source)?, Piece::End),
+    )
 }
 
 #[test]
-fn all_is_put_onto_a_writer_of_std(rt: HostRuntime) -> Result<(), Fail> {
-    let alloc = rt.alloc();
-    let calls = [
-        Call::AtMost(2),
-        Call::Interrupted,
-        Call::AtMost(2),
-        Call::Broken,
-        Call::Nothing,
-        Call::AtMost(2),
-        Call::Broken,
-    ];
-    let mut writer = Patchy::new(Vec::new(alloc), calls.to_vec(alloc)?);
+fn lines_come_of_a_reader_of_std(rt: HostRuntime) {
+    assert!(rt; lines_come(rt.alloc()) == Ok(true));
+}
+
+const WRITING: &[Call] = &[
+    Call::AtMost(2),
+    Call::Interrupted,
+    Call::AtMost(2),
+    Call::Broken,
+    Call::Nothing,
+    Call::AtMost(2),
+    Call::Broken,
+];
+
+fn all_is_put(alloc: Global) -> Result<bool, NoMemory> {
+    let mut writer = Patchy::new(Vec::new(alloc), WRITING.to_vec(alloc)?);
     let mut sink = StdSink::new(&mut writer);
-    assert_eq!(rt; sink.write(b"one"), Took::Bytes(2));
-    assert_eq!(rt; put(&mut sink, b"e"), Wrote::Done);
-    assert_eq!(rt; put(&mut sink, b"two"), Wrote::WriteFault);
-    assert_eq!(rt; put(&mut sink, b"two"), Wrote::WriteFault);
-    assert_eq!(rt; put(&mut sink, b"two"), Wrote::WriteFault);
-    assert_eq!(rt; put(&mut sink, b"three"), Wrote::Done);
-    assert_eq!(rt; writer.bytes.as_slice(), b"onetwthree".as_slice());
-    Ok(())
+    let are_told = sink.write(b"one") == Took::Bytes(2)
+        && put(&mut sink, b"e") == Wrote::Done
+        && put(&mut sink, b"two") == Wrote::WriteFault
+        && put(&mut sink, b"two") == Wrote::WriteFault
+        && put(&mut sink, b"two") == Wrote::WriteFault
+        && put(&mut sink, b"three") == Wrote::Done;
+    Ok(are_told && writer.bytes.as_slice() == b"onetwthree".as_slice())
+}
+
+#[test]
+fn all_is_put_onto_a_writer_of_std(rt: HostRuntime) {
+    assert!(rt; all_is_put(rt.alloc()) == Ok(true));
 }

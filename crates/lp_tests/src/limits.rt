@@ -1,11 +1,11 @@
 //! Texts at the limits of a model, and one past each.
 use crate::parsed::{is_fault, read};
+use base_names::NoMemory;
 use lp_parse::FaultWord;
 use std::alloc::Global;
-use std::test::Fail;
 
 /// A text of 1,000 variables and as many rows, each on a line from the second on, before the rest.
-fn full_text(alloc: Global, rest: &str) -> Result<String, Fail> {
+fn full_text(alloc: Global, rest: &str) -> Result<String, NoMemory> {
     let mut text = format!(in alloc; "min st\n")?;
     for index in 0..1_000 {
         text.push_str(&format!(in alloc; "v{index} = 0\n")?)?;
@@ -14,26 +14,46 @@ fn full_text(alloc: Global, rest: &str) -> Result<String, Fail> {
     Ok(text)
 }
 
-#[test]
-fn full_models(rt: HostRuntime) -> Result<(), Fail> {
-    let alloc = rt.alloc();
-    let table = [
-        ("v0 = 0", 1_002, FaultWord::Size),
-        ("v0 : = 0", 1_002, FaultWord::Size),
-        ("R7: = 0", 1_002, FaultWord::DoubledName),
-        ("bounds\nv0 free\nx free", 1_004, FaultWord::Size),
-        ("general\nv0\nx", 1_004, FaultWord::Size),
-    ];
-    for (rest, line, fault) in table {
-        is_fault(&rt, alloc, &full_text(alloc, rest)?, line, 1, fault);
+/// Lines past the limits, with the line of the fault.
+const FULL: &[(&str, u32, FaultWord)] = &[
+    ("v0 = 0", 1_002, FaultWord::Size),
+    ("v0 : = 0", 1_002, FaultWord::Size),
+    ("R7: = 0", 1_002, FaultWord::DoubledName),
+    ("bounds\nv0 free\nx free", 1_004, FaultWord::Size),
+    ("general\nv0\nx", 1_004, FaultWord::Size),
+];
+
+fn is_past(alloc: Global, rest: &str, line: u32, fault: FaultWord) -> Result<bool, NoMemory> {
+    let text = full_text(alloc, rest)?;
+    Ok(is_fault(alloc, text.as_str(), line, 1, fault))
+}
+
+/// How many variables and rows the text has.
+fn counts(alloc: Global, text: &str) -> Option<(usize, usize)> {
+    match &read(alloc, text) {
+        Ok(model) => Some((model.vars.len(), model.rows.len())),
+        Err(_) => None,
     }
-    let model = read(&rt, alloc, &full_text(alloc, "end")?)?;
-    assert_eq!(rt; (model.vars.len(), model.rows.len()), (1_000, 1_000));
-    Ok(())
+}
+
+fn is_full(alloc: Global) -> Result<bool, NoMemory> {
+    let text = full_text(alloc, "end")?;
+    Ok(counts(alloc, text.as_str()) == Some((1_000, 1_000)))
+}
+
+#[test]
+fn full_models(rt: HostRuntime) {
+    for (rest, line, fault) in FULL {
+        assert!(rt;
+            is_past(rt.alloc(), rest, *line, *fault) == Ok(true),
+            "{rest}"
+        );
+    }
+    assert!(rt; is_full(rt.alloc()) == Ok(true));
 }
 
 /// A text of 250 rows with 1,000 terms each, before the rest, which begins on the line behind them.
-fn text_full_of_terms(alloc: Global, rest: &str) -> Result<String, Fail> {
+fn text_full_of_terms(alloc: Global, rest: &str) -> Result<String, NoMemory> {
     let mut text = format!(in alloc; "min st\n")?;
     for _ in 0..250 {
         for index in 0..1_000 {
@@ -45,14 +65,19 @@ fn text_full_of_terms(alloc: Global, rest: &str) -> Result<String, Fail> {
     Ok(text)
 }
 
+/// A coefficient of 0 is no term, and a variable that has one in the row already needs no further one.
+fn are_all_terms(alloc: Global) -> Result<bool, NoMemory> {
+    let text = text_full_of_terms(alloc, "0 v0 = 1 end")?;
+    Ok(counts(alloc, text.as_str()) == Some((1_000, 251)))
+}
+
+fn is_one_too_many(alloc: Global) -> Result<bool, NoMemory> {
+    let text = text_full_of_terms(alloc, "0 v0 - v1 = 1 end")?;
+    Ok(is_fault(alloc, text.as_str(), 252, 8, FaultWord::Size))
+}
+
 #[test]
-fn terms_at_their_limit(rt: HostRuntime) -> Result<(), Fail> {
-    let alloc = rt.alloc();
-    // A coefficient of 0 is no term, and a variable that has one in the row already needs no further one.
-    let full = text_full_of_terms(alloc, "0 v0 = 1 end")?;
-    let model = read(&rt, alloc, &full)?;
-    assert_eq!(rt; model.rows.len(), 251);
-    let past = text_full_of_terms(alloc, "0 v0 - v1 = 1 end")?;
-    is_fault(&rt, alloc, &past, 252, 8, FaultWord::Size);
-    Ok(())
+fn terms_at_their_limit(rt: HostRuntime) {
+    assert!(rt; are_all_terms(rt.alloc()) == Ok(true));
+    assert!(rt; is_one_too_many(rt.alloc()) == Ok(true));
 }

@@ -1,5 +1,5 @@
 //! Sizes counted by hand, names and tags, and a copy of each type with ample memory.
-use base_names::{BatchId, NoMemory, Owner, Seq, Tag, Text};
+use base_names::{BatchId, NoMemory, Seq, Tag, Text, TryCopy, read_id};
 use frac128::{Frac, Op, Wide};
 use model_data::{
     AttemptOf, BatchBody, BatchRecord, BatchResult, BatchRow, Cert, CertNode, Direction, Model,
@@ -49,62 +49,84 @@ fn of_one_var(
     sample_models::model(alloc, Direction::Minimize, (0, 1), &[var], &[])
 }
 
+/// The bounds and the kind of the one variable of a model, with the entries of its tableau.
+const SIZES: &[(Option<Ratio>, Option<Ratio>, VarKind, u64)] = &[
+    (None, None, VarKind::Continuous, 2 * 4),
+    (ZERO, None, VarKind::Continuous, 2 * 3),
+    (None, ZERO, VarKind::Continuous, 2 * 3),
+    (ZERO, ZERO, VarKind::Continuous, 3 * 3),
+    (None, None, VarKind::Integer, 3 * 4),
+    (None, None, VarKind::Binary, 3 * 4),
+    (ZERO, None, VarKind::Binary, 3 * 3),
+];
+
+const ZERO: Option<Ratio> = Some((0, 1));
+
+fn has_size(
+    alloc: Global,
+    lower: Option<Ratio>,
+    upper: Option<Ratio>,
+    kind: VarKind,
+) -> Result<u64, Fail> {
+    Ok(size(&of_one_var(alloc, lower, upper, kind)?))
+}
+
 #[test]
 fn sizes(rt: HostRuntime) -> Result<(), Fail> {
     let alloc = rt.alloc();
-    let zero = Some((0, 1));
-    assert_eq!(rt; size(&Model::empty(alloc)), 4);
+    assert!(rt; size(&Model::empty(alloc)) == 4);
     // Rows 1 + 1 + 2 and the second and third variable, columns 2 + 1 + 1.
-    assert_eq!(rt; size(&model(alloc)?), (6 + 2) * (4 + 2));
-    let table = [
-        (None, None, VarKind::Continuous, 2 * 4),
-        (zero, None, VarKind::Continuous, 2 * 3),
-        (None, zero, VarKind::Continuous, 2 * 3),
-        (zero, zero, VarKind::Continuous, 3 * 3),
-        (None, None, VarKind::Integer, 3 * 4),
-        (None, None, VarKind::Binary, 3 * 4),
-        (zero, None, VarKind::Binary, 3 * 3),
-    ];
-    for (lower, upper, kind, entries) in table {
-        assert_eq!(rt;
-            size(&of_one_var(alloc, lower, upper, kind)?),
-            entries,
+    assert!(rt; size(&model(alloc)?) == (6 + 2) * (4 + 2));
+    for (lower, upper, kind, entries) in SIZES {
+        assert!(rt;
+            has_size(alloc, *lower, *upper, *kind)? == *entries,
             "{kind:?}"
         );
     }
     Ok(())
 }
 
+const NAMES: &[&str] = &["x", "Profit_2{a}!", "lazy", "to", "e2", "infinite", "A.5"];
+
+const NO_NAMES: &[&str] = &[
+    "",
+    "2x",
+    ".x",
+    "-x",
+    "+",
+    "[x",
+    "=x",
+    "a:b",
+    "a\\b",
+    "a b",
+    "a\u{7f}",
+    "Free",
+    "ST.",
+    "INF",
+    "MultI-Objectives",
+    "end",
+];
+
+const TAGS: &[&str] = &["1:\\", "end", "-"];
+
+const NO_TAGS: &[&str] = &["", "a b", "a\n"];
+
 #[test]
-fn names_and_tags(rt: HostRuntime) {
-    for text in ["x", "Profit_2{a}!", "lazy", "to", "e2", "infinite", "A.5"] {
+fn names(rt: HostRuntime) {
+    for text in NAMES {
         assert!(rt; is_name(text.as_bytes()), "{text}");
     }
-    let no_names = [
-        "",
-        "2x",
-        ".x",
-        "-x",
-        "+",
-        "[x",
-        "=x",
-        "a:b",
-        "a\\b",
-        "a b",
-        "a\u{7f}",
-        "Free",
-        "ST.",
-        "INF",
-        "MultI-Objectives",
-        "end",
-    ];
-    for text in no_names {
+    for text in NO_NAMES {
         assert!(rt; !is_name(text.as_bytes()), "{text}");
     }
-    for text in ["1:\\", "end", "-"] {
+}
+
+#[test]
+fn tags(rt: HostRuntime) {
+    for text in TAGS {
         assert!(rt; is_tag(text.as_bytes()), "{text}");
     }
-    for text in ["", "a b", "a\n"] {
+    for text in NO_TAGS {
         assert!(rt; !is_tag(text.as_bytes()), "{text}");
     }
     let long = [b'a'; 256];
@@ -112,14 +134,21 @@ fn names_and_tags(rt: HostRuntime) {
     assert!(rt; !is_name(&long) && !is_tag(&long));
 }
 
+fn are_usual(params: &Params) -> bool {
+    params.iterations == 100_000
+        && params.nodes == 10_000
+        && params.work == 1_000_000_000_000
+        && params.priority == 0
+        && params.detail == 0
+}
+
 #[test]
 fn usual_parameters(rt: HostRuntime) {
-    let usual = Params::usual();
-    assert_eq!(rt; usual.iterations, 100_000);
-    assert_eq!(rt; usual.nodes, 10_000);
-    assert_eq!(rt; usual.work, 1_000_000_000_000);
-    assert_eq!(rt; usual.priority, 0);
-    assert_eq!(rt; usual.detail, 0);
+    assert!(rt; are_usual(&Params::usual()));
+}
+
+fn is_copied<T: TryCopy + PartialEq>(alloc: Global, value: &T) -> Result<bool, NoMemory> {
+    Ok(value.try_copy(alloc)? == *value)
 }
 
 fn weights(alloc: Global) -> Result<Weights, NoMemory> {
@@ -155,60 +184,100 @@ fn outcome(alloc: Global) -> Result<Outcome, NoMemory> {
     })
 }
 
-#[test]
-fn copies_of_certificates(rt: HostRuntime) -> Result<(), Fail> {
-    let alloc = rt.alloc();
+fn tree(alloc: Global) -> Result<Cert, NoMemory> {
     let mut nodes = Vec::new(alloc);
     nodes.push(CertNode::Split(1, -5))?;
     nodes.push(CertNode::Bound(weights(alloc)?))?;
     nodes.push(CertNode::Farkas(weights(alloc)?))?;
-    let tree = Cert::Tree(Seq::of(nodes));
-    assert!(rt; tree.copy(alloc)? == tree);
-    let ray = Cert::Ray(
+    Ok(Cert::Tree(Seq::of(nodes)))
+}
+
+fn ray(alloc: Global) -> Result<Cert, NoMemory> {
+    Ok(Cert::Ray(
         Seq::of([Frac::one()].to_vec(alloc)?),
         Seq::of(Vec::new(alloc)),
-    );
-    assert!(rt; ray.copy(alloc)? == ray);
-    assert!(rt; Cert::Nothing.copy(alloc)? == Cert::Nothing);
-    Ok(())
+    ))
+}
+
+fn certificates_are_copied(alloc: Global) -> Result<bool, NoMemory> {
+    Ok(
+        is_copied(alloc, &tree(alloc)?)?
+            && is_copied(alloc, &ray(alloc)?)?
+            && is_copied(alloc, &Cert::Nothing)?,
+    )
+}
+
+#[test]
+fn copies_of_certificates(rt: HostRuntime) {
+    assert!(rt; certificates_are_copied(rt.alloc()) == Ok(true));
+}
+
+fn body(alloc: Global) -> Result<BatchBody, Fail> {
+    Ok(BatchBody {
+        model: with_first_tagged(alloc, model(alloc)?)?,
+        params: Params::usual(),
+    })
+}
+
+fn found(alloc: Global) -> Result<BatchResult, NoMemory> {
+    Ok(BatchResult {
+        outcome: outcome(alloc)?,
+        cert: Some(Text::of(b"END".to_vec(alloc)?)),
+    })
+}
+
+fn row(alloc: Global, id: BatchId) -> Result<BatchRow, Fail> {
+    Ok(BatchRow {
+        id,
+        status: 2,
+        attempt: 3,
+        body: body(alloc)?,
+        result: Some(found(alloc)?),
+    })
+}
+
+fn rows_are_copied(alloc: Global, id: BatchId) -> Result<bool, Fail> {
+    Ok(
+        is_copied(alloc, &body(alloc)?)?
+            && is_copied(alloc, &found(alloc)?)?
+            && is_copied(alloc, &row(alloc, id)?)?,
+    )
+}
+
+fn create(alloc: Global, id: BatchId) -> Result<BatchRecord, Fail> {
+    Ok(BatchRecord::Create(id, 1, body(alloc)?))
+}
+
+fn finish(alloc: Global, id: BatchId) -> Result<BatchRecord, NoMemory> {
+    Ok(BatchRecord::Finish(id, 1, found(alloc)?))
+}
+
+fn lost(alloc: Global, id: BatchId) -> Result<BatchRecord, NoMemory> {
+    Ok(BatchRecord::Lost(Seq::of([AttemptOf { id, attempt: 1 }].to_vec(alloc)?)))
+}
+
+fn full_records_are_copied(alloc: Global, id: BatchId) -> Result<bool, Fail> {
+    Ok(
+        is_copied(alloc, &create(alloc, id)?)?
+            && is_copied(alloc, &finish(alloc, id)?)?
+            && is_copied(alloc, &lost(alloc, id)?)?,
+    )
+}
+
+fn short_records_are_copied(alloc: Global, id: BatchId) -> Result<bool, NoMemory> {
+    Ok(
+        is_copied(alloc, &BatchRecord::Abort(id, 1))?
+            && is_copied(alloc, &BatchRecord::Discard(id))?
+            && is_copied(alloc, &BatchRecord::Retry(id, 2))?
+            && is_copied(alloc, &BatchRecord::Next(id))?,
+    )
 }
 
 #[test]
 fn copies_of_batches(rt: HostRuntime) -> Result<(), Fail> {
-    let alloc = rt.alloc();
-    let id = BatchId {
-        owner: Owner::read(b"ada").ok_or("an owner")?,
-        number: 7,
-    };
-    let body = BatchBody {
-        model: with_first_tagged(alloc, model(alloc)?)?,
-        params: Params::usual(),
-    };
-    let found = BatchResult {
-        outcome: outcome(alloc)?,
-        cert: Some(Text::of(b"END".to_vec(alloc)?)),
-    };
-    let row = BatchRow {
-        id,
-        status: 2,
-        attempt: 3,
-        body: body.copy(alloc)?,
-        result: Some(found.copy(alloc)?),
-    };
-    assert!(rt; row.body == body);
-    assert!(rt; row.copy(alloc)? == row);
-    let attempts = Seq::of([AttemptOf { id, attempt: 1 }].to_vec(alloc)?);
-    let records = [
-        BatchRecord::Create(id, 1, body),
-        BatchRecord::Abort(id, 1),
-        BatchRecord::Discard(id),
-        BatchRecord::Retry(id, 2),
-        BatchRecord::Finish(id, 1, found),
-        BatchRecord::Lost(attempts),
-        BatchRecord::Next(id),
-    ];
-    for record in &records {
-        assert!(rt; record.copy(alloc)? == *record);
-    }
+    let id = read_id(b"ada.7").ok_or("an ID")?;
+    assert!(rt; rows_are_copied(rt.alloc(), id)?);
+    assert!(rt; full_records_are_copied(rt.alloc(), id)?);
+    assert!(rt; short_records_are_copied(rt.alloc(), id)?);
     Ok(())
 }

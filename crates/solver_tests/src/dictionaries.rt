@@ -1,5 +1,6 @@
 //! Two programs, pivot by pivot, with ample memory, and refused operations.
-ghost use Rattle.std.specs.Prelude.{Contains, IsTrue};
+ghost use Rattle.std.specs.Prelude.{◌<◌, ◌≤◌, Contains, IsTrue};
+ghost use Rattle.dictionary.specs.Dictionary.{line_count};
 
 use base_names::{NoMemory, Seq};
 use dictionary::{Dict, Std, StdRow, Tableau};
@@ -9,58 +10,58 @@ use std::alloc::Global;
 use std::process::Abort;
 use std::test::Fail;
 
-fn list(alloc: Global, ratios: &[Ratio]) -> Result<Seq<Frac>, Fail> {
+const LARGE: i128 = 1 << 126;
+
+/// Rows of two coefficients and a right side, and an objective of two coefficients and a constant.
+struct Program {
+    rows: &'static [[Ratio; 3]],
+    obj: [Ratio; 3],
+}
+
+const TWO_PIVOTS: Program = Program {
+    rows: &[[(2, 1), (1, 1), (4, 1)], [(1, 1), (3, 1), (6, 1)]],
+    obj: [(1, 1), (1, 1), (0, 1)],
+};
+
+const TWO_PHASES: Program = Program {
+    rows: &[
+        [(-1, 1), (-1, 1), (-1, 1)],
+        [(1, 1), (2, 1), (4, 1)],
+        [(-2, 1), (1, 1), (-1, 1)],
+    ],
+    obj: [(1, 1), (1, 1), (3, 1)],
+};
+
+const REFUSED: Program = Program {
+    rows: &[[(2, 1), (1, 1), (LARGE, 1)], [(1, 1), (3, 1), (-LARGE, 1)]],
+    obj: [(1, 1), (1, 1), (0, 1)],
+};
+
+fn coefs(alloc: Global, line: &[Ratio; 3]) -> Result<Seq<Frac>, Fail> {
     let mut all = Vec::new(alloc);
-    for ratio in ratios {
-        all.push(frac(*ratio)?)?;
+    all.push(frac(line[0])?)?;
+    all.push(frac(line[1])?)?;
+    Ok(Seq::of(all))
+}
+
+fn std_rows(alloc: Global, rows: &[[Ratio; 3]]) -> Result<Seq<StdRow>, Fail> {
+    let mut all = Vec::new(alloc);
+    for row in rows {
+        all.push(StdRow {
+            coefs: coefs(alloc, row)?,
+            rhs: frac(row[2])?,
+        })?;
     }
     Ok(Seq::of(all))
 }
 
 /// A program of coefficients and right sides by row, and of the objective, whose constant is last.
 pub(crate) fn program(alloc: Global, rows: &[[Ratio; 3]], obj: [Ratio; 3]) -> Result<Std, Fail> {
-    let mut all = Vec::new(alloc);
-    for row in rows {
-        all.push(StdRow {
-            coefs: list(alloc, &[row[0], row[1]])?,
-            rhs: frac(row[2])?,
-        })?;
-    }
     Ok(Std {
-        rows: Seq::of(all),
-        obj: list(alloc, &[obj[0], obj[1]])?,
+        rows: std_rows(alloc, rows)?,
+        obj: coefs(alloc, &obj)?,
         constant: frac(obj[2])?,
     })
-}
-
-/// Compares each index and each entry.
-fn shows<T: Tableau>(
-    rt: &impl Abort,
-    tableau: &T,
-    basic: &[u32],
-    nonbasic: &[u32],
-    lines: &[&[Ratio]],
-) -> Result<(), Fail> {
-    let rows = tableau.rows();
-    let cols = tableau.cols();
-    assert!(rt; rows as usize == basic.len());
-    assert!(rt; cols as usize == nonbasic.len());
-    for place in 0..rows {
-        assert!(rt; tableau.basic(place + 1) == basic[place as usize]);
-    }
-    for place in 0..cols {
-        assert!(rt; tableau.nonbasic(place + 1) == nonbasic[place as usize]);
-    }
-    let count = rows + if tableau.in_phase_one() { 2 } else { 1 };
-    assert!(rt; lines.len() == count as usize);
-    for place in 0..count {
-        let line = lines[place as usize];
-        assert!(rt; line.len() == cols as usize + 1);
-        for col in 0..cols + 1 {
-            assert!(rt; tableau.entry(place + 1, col) == frac(line[col as usize])?);
-        }
-    }
-    Ok(())
 }
 
 fn opened(rt: &impl Abort, alloc: Global, s: &Std) -> Result<Dict, NoMemory> {
@@ -73,6 +74,75 @@ fn opened(rt: &impl Abort, alloc: Global, s: &Std) -> Result<Dict, NoMemory> {
             .all(|row| row.coefs.len() == columns)
     );
     Dict::new(alloc, s)
+}
+
+fn dict_of(rt: &impl Abort, alloc: Global, of: &Program) -> Result<Dict, Fail> {
+    Ok(opened(rt, alloc, &program(alloc, of.rows, of.obj)?)?)
+}
+
+fn has_basic<T: Tableau>(tableau: &T, basic: &[u32]) -> bool {
+    let rows = tableau.rows();
+    if rows as usize != basic.len() {
+        return false;
+    }
+    for place in 0..rows {
+        if tableau.basic(place + 1) != basic[place as usize] {
+            return false;
+        }
+    }
+    true
+}
+
+fn has_nonbasic<T: Tableau>(tableau: &T, nonbasic: &[u32]) -> bool {
+    let cols = tableau.cols();
+    if cols as usize != nonbasic.len() {
+        return false;
+    }
+    for place in 0..cols {
+        if tableau.nonbasic(place + 1) != nonbasic[place as usize] {
+            return false;
+        }
+    }
+    true
+}
+
+fn is_ratio(entry: &Frac, ratio: Ratio) -> bool {
+    (entry.num(), entry.den()) == ratio
+}
+
+/// The line of a row, or of an objective behind the rows, its constant first.
+fn has_line<T: Tableau>(tableau: &T, place: u32, line: &[Ratio]) -> bool
+    requires row_above { 0 < place }
+    requires row_within { place ≤ line_count (T.meaning tableau.now) }
+{
+    let cols = tableau.cols();
+    if line.len() != cols as usize + 1 {
+        return false;
+    }
+    for col in 0..cols + 1 {
+        if !is_ratio(&tableau.entry(place, col), line[col as usize]) {
+            return false;
+        }
+    }
+    true
+}
+
+fn has_lines<T: Tableau>(tableau: &T, lines: &[&[Ratio]]) -> bool {
+    let count = tableau.rows() + if tableau.in_phase_one() { 2 } else { 1 };
+    if lines.len() != count as usize {
+        return false;
+    }
+    for place in 0..count {
+        if !has_line(tableau, place + 1, lines[place as usize]) {
+            return false;
+        }
+    }
+    true
+}
+
+/// Compares each index and each entry.
+fn shows<T: Tableau>(tableau: &T, basic: &[u32], nonbasic: &[u32], lines: &[&[Ratio]]) -> bool {
+    has_basic(tableau, basic) && has_nonbasic(tableau, nonbasic) && has_lines(tableau, lines)
 }
 
 /// Whether the artificial variable is nonbasic.
@@ -88,10 +158,12 @@ fn has_artificial<T: Tableau>(tableau: &T) -> bool
     false
 }
 
-fn end_phase_one(rt: &impl Abort, dict: &mut Dict) {
-    assert!(rt; dict.in_phase_one());
-    assert!(rt; has_artificial(dict));
+fn ends_phase_one(dict: &mut Dict) -> bool {
+    if !dict.in_phase_one() || !has_artificial(dict) {
+        return false;
+    }
     dict.end_phase_one();
+    true
 }
 
 fn pivot(rt: &impl Abort, dict: &mut Dict, row: u32, col: u32) -> Result<(), Wide> {
@@ -103,111 +175,76 @@ fn pivot(rt: &impl Abort, dict: &mut Dict, row: u32, col: u32) -> Result<(), Wid
 
 #[test]
 fn two_pivots(rt: HostRuntime) -> Result<(), Fail> {
-    let rows = [[(2, 1), (1, 1), (4, 1)], [(1, 1), (3, 1), (6, 1)]];
-    let s = program(rt.alloc(), &rows, [(1, 1), (1, 1), (0, 1)])?;
-    let mut dict = opened(&rt, rt.alloc(), &s)?;
-    shows(
-        &rt,
-        &dict,
-        &[3, 4],
-        &[1, 2],
-        &[
-            &[(4, 1), (2, 1), (1, 1)],
-            &[(6, 1), (1, 1), (3, 1)],
-            &[(0, 1), (1, 1), (1, 1)],
-        ],
-    )?;
-    pivot(&rt, &mut dict, 1, 1).expect(&rt, "a pivot that fits");
-    shows(
-        &rt,
-        &dict,
-        &[1, 4],
-        &[3, 2],
-        &[
-            &[(2, 1), (1, 2), (1, 2)],
-            &[(4, 1), (-1, 2), (5, 2)],
-            &[(2, 1), (-1, 2), (1, 2)],
-        ],
-    )?;
-    pivot(&rt, &mut dict, 2, 2).expect(&rt, "a pivot that fits");
-    shows(
-        &rt,
-        &dict,
-        &[1, 2],
-        &[3, 4],
-        &[
-            &[(6, 5), (3, 5), (-1, 5)],
-            &[(8, 5), (-1, 5), (2, 5)],
-            &[(14, 5), (-2, 5), (-1, 5)],
-        ],
-    )?;
+    let mut dict = dict_of(&rt, rt.alloc(), &TWO_PIVOTS)?;
+    assert!(rt; shows(&dict, &[3, 4], &[1, 2], OPENED));
+    assert!(rt; pivot(&rt, &mut dict, 1, 1).is_ok());
+    assert!(rt; shows(&dict, &[1, 4], &[3, 2], ONCE));
+    assert!(rt; pivot(&rt, &mut dict, 2, 2).is_ok());
+    assert!(rt; shows(&dict, &[1, 2], &[3, 4], TWICE));
     Ok(())
 }
 
+const OPENED: &[&[Ratio]] = &[
+    &[(4, 1), (2, 1), (1, 1)],
+    &[(6, 1), (1, 1), (3, 1)],
+    &[(0, 1), (1, 1), (1, 1)],
+];
+
+const ONCE: &[&[Ratio]] = &[
+    &[(2, 1), (1, 2), (1, 2)],
+    &[(4, 1), (-1, 2), (5, 2)],
+    &[(2, 1), (-1, 2), (1, 2)],
+];
+
+const TWICE: &[&[Ratio]] = &[
+    &[(6, 5), (3, 5), (-1, 5)],
+    &[(8, 5), (-1, 5), (2, 5)],
+    &[(14, 5), (-2, 5), (-1, 5)],
+];
+
 #[test]
 fn two_phases(rt: HostRuntime) -> Result<(), Fail> {
-    let rows = [
-        [(-1, 1), (-1, 1), (-1, 1)],
-        [(1, 1), (2, 1), (4, 1)],
-        [(-2, 1), (1, 1), (-1, 1)],
-    ];
-    let s = program(rt.alloc(), &rows, [(1, 1), (1, 1), (3, 1)])?;
-    let mut dict = opened(&rt, rt.alloc(), &s)?;
-    shows(
-        &rt,
-        &dict,
-        &[3, 4, 5],
-        &[1, 2, 0],
-        &[
-            &[(-1, 1), (-1, 1), (-1, 1), (-1, 1)],
-            &[(4, 1), (1, 1), (2, 1), (-1, 1)],
-            &[(-1, 1), (-2, 1), (1, 1), (-1, 1)],
-            &[(3, 1), (1, 1), (1, 1), (0, 1)],
-            &[(0, 1), (0, 1), (0, 1), (-1, 1)],
-        ],
-    )?;
-    pivot(&rt, &mut dict, 1, 3).expect(&rt, "a pivot that fits");
-    pivot(&rt, &mut dict, 1, 1).expect(&rt, "a pivot that fits");
-    shows(
-        &rt,
-        &dict,
-        &[1, 4, 5],
-        &[0, 2, 3],
-        &[
-            &[(1, 1), (1, 1), (1, 1), (-1, 1)],
-            &[(3, 1), (-2, 1), (1, 1), (1, 1)],
-            &[(1, 1), (1, 1), (3, 1), (-2, 1)],
-            &[(4, 1), (-1, 1), (0, 1), (1, 1)],
-            &[(0, 1), (-1, 1), (0, 1), (0, 1)],
-        ],
-    )?;
-    end_phase_one(&rt, &mut dict);
-    shows(
-        &rt,
-        &dict,
-        &[1, 4, 5],
-        &[2, 3],
-        &[
-            &[(1, 1), (1, 1), (-1, 1)],
-            &[(3, 1), (1, 1), (1, 1)],
-            &[(1, 1), (3, 1), (-2, 1)],
-            &[(4, 1), (0, 1), (1, 1)],
-        ],
-    )?;
+    let mut dict = dict_of(&rt, rt.alloc(), &TWO_PHASES)?;
+    assert!(rt; shows(&dict, &[3, 4, 5], &[1, 2, 0], PHASE_ONE));
+    assert!(rt; pivot(&rt, &mut dict, 1, 3).is_ok());
+    assert!(rt; pivot(&rt, &mut dict, 1, 1).is_ok());
+    assert!(rt; shows(&dict, &[1, 4, 5], &[0, 2, 3], PHASE_ONE_ENDED));
+    assert!(rt; ends_phase_one(&mut dict));
+    assert!(rt; shows(&dict, &[1, 4, 5], &[2, 3], PHASE_TWO));
     Ok(())
 }
+
+const PHASE_ONE: &[&[Ratio]] = &[
+    &[(-1, 1), (-1, 1), (-1, 1), (-1, 1)],
+    &[(4, 1), (1, 1), (2, 1), (-1, 1)],
+    &[(-1, 1), (-2, 1), (1, 1), (-1, 1)],
+    &[(3, 1), (1, 1), (1, 1), (0, 1)],
+    &[(0, 1), (0, 1), (0, 1), (-1, 1)],
+];
+
+const PHASE_ONE_ENDED: &[&[Ratio]] = &[
+    &[(1, 1), (1, 1), (1, 1), (-1, 1)],
+    &[(3, 1), (-2, 1), (1, 1), (1, 1)],
+    &[(1, 1), (1, 1), (3, 1), (-2, 1)],
+    &[(4, 1), (-1, 1), (0, 1), (1, 1)],
+    &[(0, 1), (-1, 1), (0, 1), (0, 1)],
+];
+
+const PHASE_TWO: &[&[Ratio]] = &[
+    &[(1, 1), (1, 1), (-1, 1)],
+    &[(3, 1), (1, 1), (1, 1)],
+    &[(1, 1), (3, 1), (-2, 1)],
+    &[(4, 1), (0, 1), (1, 1)],
+];
 
 /// The first operation that doesn't fit, and the sizes behind it.
 #[test]
 fn refused(rt: HostRuntime) -> Result<(), Fail> {
-    let large = 1 << 126;
-    let rows = [[(2, 1), (1, 1), (large, 1)], [(1, 1), (3, 1), (-large, 1)]];
-    let s = program(rt.alloc(), &rows, [(1, 1), (1, 1), (0, 1)])?;
-    let mut dict = opened(&rt, rt.alloc(), &s)?;
+    let mut dict = dict_of(&rt, rt.alloc(), &REFUSED)?;
     let wide = Wide {
         op: Op::Sub,
-        left: frac((large, 1))?,
-        right: frac((-large, 1))?,
+        left: frac((LARGE, 1))?,
+        right: frac((-LARGE, 1))?,
     };
     assert!(rt; pivot(&rt, &mut dict, 2, 3) == Err(wide));
     assert!(rt; dict.rows() == 2 && dict.cols() == 3 && dict.in_phase_one());

@@ -5,37 +5,40 @@ ghost use Rattle.std_form.specs.Cuts.{IsCutOf, IsSmall};
 
 use base_names::OrMemory;
 use dictionary::Std;
-use frac128::{Frac, Op, Wide};
+use frac128::{Frac, Op};
 use model_data::{Direction, Model, Sense, VarKind};
-use sample_models::{frac, model};
+use sample_models::{Ratio, RowOf, VarOf, frac, model};
 use solve_defs::Cut;
 use std::alloc::Global;
 use std::process::Abort;
 use std::test::Fail;
 use std_form::{StdFault, point_back, to_std};
 
-fn whole(n: i128) -> Result<Frac, Fail> {
-    frac((n, 1))
-}
+const ONE: Ratio = (1, 1);
 
-/// Maximize or minimize `3 x + 2 y - z + w + 5`, where x is from 1 to 4, y at most 5, z free and w binary, with one row of each sense.
+const HALF: i128 = 1 << 126;
+
+const TALL: i128 = 10_000_000_000_000_000_000;
+
+const STEEP: i128 = 1_000_000_000_000_000_000_000_000_000_000;
+
+/// `3 x + 2 y - z + w + 5`, where x is from 1 to 4, y at most 5, z free and w binary.
+const SMALL_VARS: &[VarOf<'static>] = &[
+    ("x", Some(ONE), Some((4, 1)), (3, 1), VarKind::Continuous),
+    ("y", None, Some((5, 1)), (2, 1), VarKind::Integer),
+    ("z", None, None, (-1, 1), VarKind::Continuous),
+    ("w", None, None, ONE, VarKind::Binary),
+];
+
+/// One row of each sense.
+const SMALL_ROWS: &[RowOf<'static>] = &[
+    ("a", &[(0, (2, 1)), (1, ONE)], Sense::Less, (10, 1)),
+    ("b", &[(0, ONE), (2, (-1, 1))], Sense::Greater, (3, 1)),
+    ("c", &[(1, ONE), (3, ONE)], Sense::Equal, (4, 1)),
+];
+
 fn small_model(alloc: Global, direction: Direction) -> Result<Model, Fail> {
-    let one = (1, 1);
-    let vars = [
-        ("x", Some(one), Some((4, 1)), (3, 1), VarKind::Continuous),
-        ("y", None, Some((5, 1)), (2, 1), VarKind::Integer),
-        ("z", None, None, (-1, 1), VarKind::Continuous),
-        ("w", None, None, one, VarKind::Binary),
-    ];
-    let less = [(0, (2, 1)), (1, one)];
-    let greater = [(0, one), (2, (-1, 1))];
-    let equal = [(1, one), (3, one)];
-    let rows = [
-        ("a", less.as_slice(), Sense::Less, (10, 1)),
-        ("b", greater.as_slice(), Sense::Greater, (3, 1)),
-        ("c", equal.as_slice(), Sense::Equal, (4, 1)),
-    ];
-    model(alloc, direction, (5, 1), &vars, &rows)
+    model(alloc, direction, (5, 1), SMALL_VARS, SMALL_ROWS)
 }
 
 fn is_small(bound: Option<i128>) -> bool
@@ -77,180 +80,282 @@ fn point(
     point_back(alloc, m, cuts, xs)
 }
 
-fn wide<T: Drop>(answer: Result<T, OrMemory<StdFault>>) -> Option<Wide> {
-    match answer.err() {
-        Some(OrMemory::Fault(StdFault::Wide(wide))) => Some(wide),
-        _ => None,
-    }
+fn is_whole(value: &Frac, number: i128) -> bool {
+    value.num() == number && value.den() == 1
 }
 
-fn wholes(alloc: Global, numbers: &[i128]) -> Result<Vec<Frac>, Fail> {
+fn are_wholes(values: &[Frac], expected: &[i128]) -> bool {
+    if values.len() != expected.len() {
+        return false;
+    }
+    for (value, number) in values.iter().zip(expected) {
+        if !is_whole(value, *number) {
+            return false;
+        }
+    }
+    true
+}
+
+/// Rows, each by its coefficients and its right side, an objective and its constant.
+struct Wanted {
+    rows: &'static [(&'static [i128], i128)],
+    obj: &'static [i128],
+    constant: i128,
+}
+
+fn has_rows(form: &Std, rows: &[(&[i128], i128)]) -> bool {
+    if form.rows.len() != rows.len() {
+        return false;
+    }
+    for (row, (coefs, rhs)) in form.rows.as_slice().iter().zip(rows) {
+        if !are_wholes(row.coefs.as_slice(), coefs) || !is_whole(&row.rhs, *rhs) {
+            return false;
+        }
+    }
+    true
+}
+
+fn is_form(form: &Std, wanted: &Wanted) -> bool {
+    has_rows(form, wanted.rows)
+        && are_wholes(form.obj.as_slice(), wanted.obj)
+        && is_whole(&form.constant, wanted.constant)
+}
+
+fn has_form(
+    rt: &impl Abort,
+    alloc: Global,
+    m: &Model,
+    cuts: &Vec<Cut>,
+    wanted: &Wanted,
+) -> Result<bool, OrMemory<StdFault>> {
+    Ok(is_form(&form(rt, alloc, m, cuts)?, wanted))
+}
+
+fn fracs(alloc: Global, numbers: &[i128]) -> Result<Vec<Frac>, Fail> {
     let mut values = Vec::new(alloc);
     for number in numbers {
-        values.push(whole(*number)?)?;
+        values.push(frac((*number, 1))?)?;
     }
     Ok(values)
 }
 
-fn assert_values(rt: &impl Abort, values: &[Frac], expected: &[i128]) -> Result<(), Fail> {
-    assert_eq!(rt; values.len(), expected.len());
-    for (value, number) in values.iter().zip(expected) {
-        assert_eq!(rt; *value, whole(*number)?);
-    }
-    Ok(())
+/// The point of the columns is this one of the variables.
+fn has_point(
+    rt: &impl Abort,
+    alloc: Global,
+    m: &Model,
+    cuts: &Vec<Cut>,
+    xs: &Vec<Frac>,
+    wanted: &[i128],
+) -> Result<bool, OrMemory<StdFault>> {
+    Ok(are_wholes(point(rt, alloc, m, cuts, xs)?.as_slice(), wanted))
 }
 
-/// Compares the rows, each by its coefficients and its right side, the objective and its constant.
-fn assert_form(
-    rt: &impl Abort,
-    form: &Std,
-    rows: &[(&[i128], i128)],
-    obj: &[i128],
-    constant: i128,
-) -> Result<(), Fail> {
-    assert_eq!(rt; form.rows.len(), rows.len());
-    for (row, (coefs, rhs)) in form.rows.as_slice().iter().zip(rows) {
-        assert_values(rt, row.coefs.as_slice(), coefs)?;
-        assert_eq!(rt; row.rhs, whole(*rhs)?);
-    }
-    assert_values(rt, form.obj.as_slice(), obj)?;
-    assert_eq!(rt; form.constant, whole(constant)?);
-    Ok(())
-}
+const SHAPES_ROWS: &[(&[i128], i128)] = &[
+    (&[2, -1, 0, 0, 0], 3),
+    (&[-1, 0, 1, -1, 0], -2),
+    (&[0, -1, 0, 0, 1], -1),
+    (&[0, 1, 0, 0, -1], 1),
+    (&[1, 0, 0, 0, 0], 3),
+    (&[0, 0, 0, 0, 1], 1),
+];
+
+const GREATEST: Wanted = Wanted {
+    rows: SHAPES_ROWS,
+    obj: &[3, -2, -1, 1, 1],
+    constant: 18,
+};
+
+const LEAST: Wanted = Wanted {
+    rows: SHAPES_ROWS,
+    obj: &[-3, 2, 1, -1, -1],
+    constant: -18,
+};
 
 #[test]
 fn each_shape(rt: HostRuntime) -> Result<(), Fail> {
     let alloc = rt.alloc();
-    let rows = [
-        ([2, -1, 0, 0, 0].as_slice(), 3),
-        ([-1, 0, 1, -1, 0].as_slice(), -2),
-        ([0, -1, 0, 0, 1].as_slice(), -1),
-        ([0, 1, 0, 0, -1].as_slice(), 1),
-        ([1, 0, 0, 0, 0].as_slice(), 3),
-        ([0, 0, 0, 0, 1].as_slice(), 1),
-    ];
     let none: Vec<Cut> = Vec::new(alloc);
     let m = small_model(alloc, Direction::Maximize)?;
-    let greatest = form(&rt, alloc, &m, &none).ok().ok_or("a form")?;
-    assert_form(&rt, &greatest, &rows, &[3, -2, -1, 1, 1], 18)?;
+    assert!(rt; matches!(has_form(&rt, alloc, &m, &none, &GREATEST), Ok(true)));
     let turned = small_model(alloc, Direction::Minimize)?;
-    let least = form(&rt, alloc, &turned, &none).ok().ok_or("a form")?;
-    assert_form(&rt, &least, &rows, &[-3, 2, 1, -1, -1], -18)?;
-    let values = point(&rt, alloc, &m, &none, &wholes(alloc, &[2, 1, 5, 2, 1])?)
-        .ok()
-        .ok_or("a point")?;
-    assert_values(&rt, &values, &[3, 4, 3, 1])?;
+    assert!(rt; matches!(has_form(&rt, alloc, &turned, &none, &LEAST), Ok(true)));
+    let xs = fracs(alloc, &[2, 1, 5, 2, 1])?;
+    assert!(rt;
+        matches!(
+            has_point(&rt, alloc, &m, &none, &xs, &[3, 4, 3, 1]),
+            Ok(true)
+        )
+    );
     Ok(())
 }
 
-/// Cuts make y shifted and z mirrored, and the tighter bound counts.
+/// Cuts by which y is shifted and z mirrored, and of which the tighter bound counts.
+const CUTS: &[Cut] = &[
+    Cut {
+        var: 0,
+        lower: Some(2),
+        upper: None,
+    },
+    Cut {
+        var: 2,
+        lower: None,
+        upper: Some(7),
+    },
+    Cut {
+        var: 1,
+        lower: Some(0),
+        upper: Some(9),
+    },
+    Cut {
+        var: 0,
+        lower: Some(1),
+        upper: Some(3),
+    },
+];
+
+const CUT: Wanted = Wanted {
+    rows: &[
+        (&[2, 1, 0, 0], 6),
+        (&[-1, 0, -1, 0], -8),
+        (&[0, 1, 0, 1], 4),
+        (&[0, -1, 0, -1], -4),
+        (&[1, 0, 0, 0], 1),
+        (&[0, 1, 0, 0], 5),
+        (&[0, 0, 0, 1], 1),
+    ],
+    obj: &[3, 2, 1, 1],
+    constant: 4,
+};
+
 #[test]
 fn with_cuts(rt: HostRuntime) -> Result<(), Fail> {
     let alloc = rt.alloc();
-    let cuts = [
-        (0, Some(2), None),
-        (2, None, Some(7)),
-        (1, Some(0), Some(9)),
-        (0, Some(1), Some(3)),
-    ];
-    let cuts: Vec<Cut> = cuts
-        .iter()
-        .map(|(var, lower, upper)| Cut {
-            var: *var,
-            lower: *lower,
-            upper: *upper,
-        })
-        .collect(alloc)?;
-    let rows = [
-        ([2, 1, 0, 0].as_slice(), 6),
-        ([-1, 0, -1, 0].as_slice(), -8),
-        ([0, 1, 0, 1].as_slice(), 4),
-        ([0, -1, 0, -1].as_slice(), -4),
-        ([1, 0, 0, 0].as_slice(), 1),
-        ([0, 1, 0, 0].as_slice(), 5),
-        ([0, 0, 0, 1].as_slice(), 1),
-    ];
+    let cuts = CUTS.to_vec(alloc)?;
     let m = small_model(alloc, Direction::Maximize)?;
-    let program = form(&rt, alloc, &m, &cuts).ok().ok_or("a form")?;
-    assert_form(&rt, &program, &rows, &[3, 2, 1, 1], 4)?;
-    let values = point(&rt, alloc, &m, &cuts, &wholes(alloc, &[1, 4, 6, 0])?)
-        .ok()
-        .ok_or("a point")?;
-    assert_values(&rt, &values, &[3, 4, 1, 0])?;
+    assert!(rt; matches!(has_form(&rt, alloc, &m, &cuts, &CUT), Ok(true)));
+    let xs = fracs(alloc, &[1, 4, 6, 0])?;
+    assert!(rt;
+        matches!(
+            has_point(&rt, alloc, &m, &cuts, &xs, &[3, 4, 1, 0]),
+            Ok(true)
+        )
+    );
     Ok(())
 }
+
+const UNLAWFUL_VARS: &[VarOf<'static>] = &[("x", Some(ONE), None, ONE, VarKind::Continuous)];
+
+const UNLAWFUL_ROWS: &[RowOf<'static>] = &[(
+    "a",
+    &[(0, (2, 1)), (7, (5, 1)), (0, (3, 1))],
+    Sense::Less,
+    (10, 1),
+)];
+
+const UNLAWFUL: Wanted = Wanted {
+    rows: &[(&[2], 5)],
+    obj: &[1],
+    constant: 1,
+};
 
 /// Of two terms of one variable both move to the right side, and the first one is the coefficient. A term of no variable is none.
 #[test]
 fn unlawful_terms(rt: HostRuntime) -> Result<(), Fail> {
     let alloc = rt.alloc();
-    let vars = [("x", Some((1, 1)), None, (1, 1), VarKind::Continuous)];
-    let terms = [(0, (2, 1)), (7, (5, 1)), (0, (3, 1))];
-    let rows = [("a", terms.as_slice(), Sense::Less, (10, 1))];
-    let m = model(alloc, Direction::Maximize, (0, 1), &vars, &rows)?;
-    let none: Vec<Cut> = Vec::new(alloc);
-    let program = form(&rt, alloc, &m, &none).ok().ok_or("a form")?;
-    assert_form(&rt, &program, &[([2].as_slice(), 5)], &[1], 1)?;
+    let m = model(
+        alloc,
+        Direction::Maximize,
+        (0, 1),
+        UNLAWFUL_VARS,
+        UNLAWFUL_ROWS,
+    )?;
+    assert!(rt;
+        matches!(
+            has_form(&rt, alloc, &m, &Vec::new(alloc), &UNLAWFUL),
+            Ok(true)
+        )
+    );
     Ok(())
 }
 
-/// In a row of one variable, then in its span, then in the objective: the first operation that doesn't fit is told.
+/// An operation by its operator and its operands, which are whole.
+type Told = (Op, i128, i128);
+
+fn tells<T: Drop>(answer: Result<T, OrMemory<StdFault>>, (op, left, right): Told) -> bool {
+    match &answer {
+        Err(OrMemory::Fault(StdFault::Wide(wide))) => {
+            wide.op == op && is_whole(&wide.left, left) && is_whole(&wide.right, right)
+        }
+        _ => false,
+    }
+}
+
+/// A variable's bounds, its coefficient in the objective, the constant, and its coefficient in one row with its right side.
+type OneRow = (i128, Option<i128>, i128, i128, i128, i128);
+
+/// In a row of one variable, then in its span, then in the objective: the first operation that doesn't fit.
+const REFUSED: &[(OneRow, Told)] = &[
+    ((TALL, None, 0, 0, STEEP, 1), (Op::Mul, STEEP, TALL)),
+    ((HALF, Some(-HALF), 4, 0, 1, -HALF), (Op::Sub, -HALF, HALF)),
+    ((-HALF, Some(HALF), 4, 0, 0, 1), (Op::Sub, HALF, -HALF)),
+    ((HALF, None, 4, 0, 0, 1), (Op::Mul, 4, HALF)),
+    ((HALF, None, 1, HALF, 0, 1), (Op::Add, HALF, HALF)),
+];
+
+fn of_one_row(
+    alloc: Global,
+    (lower, upper, obj, constant, coef, rhs): OneRow,
+) -> Result<Model, Fail> {
+    let upper = upper.map(|n| (n, 1));
+    let vars = [("x", Some((lower, 1)), upper, (obj, 1), VarKind::Continuous)];
+    let terms = [(0, (coef, 1))];
+    let rows = [("a", terms.as_slice(), Sense::Less, (rhs, 1))];
+    model(alloc, Direction::Minimize, (constant, 1), &vars, &rows)
+}
+
+fn is_refused(rt: &impl Abort, alloc: Global, one: OneRow, told: Told) -> Result<bool, Fail> {
+    let m = of_one_row(alloc, one)?;
+    Ok(tells(form(rt, alloc, &m, &Vec::new(alloc)), told))
+}
+
 #[test]
 fn refused_operations(rt: HostRuntime) -> Result<(), Fail> {
-    let alloc = rt.alloc();
-    let half = 1 << 126;
-    let tall = 10_000_000_000_000_000_000;
-    let steep = 1_000_000_000_000_000_000_000_000_000_000;
-    // Bounds, coefficient and constant of the objective, coefficient and right side of the row, and what is told.
-    let table = [
-        (tall, None, 0, 0, steep, 1, Op::Mul, steep, tall),
-        (half, Some(-half), 4, 0, 1, -half, Op::Sub, -half, half),
-        (-half, Some(half), 4, 0, 0, 1, Op::Sub, half, -half),
-        (half, None, 4, 0, 0, 1, Op::Mul, 4, half),
-        (half, None, 1, half, 0, 1, Op::Add, half, half),
-    ];
-    let none: Vec<Cut> = Vec::new(alloc);
-    for (lower, upper, obj, constant, coef, rhs, op, left, right) in table {
-        let bounds = (Some((lower, 1)), upper.map(|n| (n, 1)));
-        let vars = [("x", bounds.0, bounds.1, (obj, 1), VarKind::Continuous)];
-        let terms = [(0, (coef, 1))];
-        let rows = [("a", terms.as_slice(), Sense::Less, (rhs, 1))];
-        let m = model(alloc, Direction::Minimize, (constant, 1), &vars, &rows)?;
-        let expected = Wide {
-            op,
-            left: whole(left)?,
-            right: whole(right)?,
-        };
-        assert_eq!(rt; wide(form(&rt, alloc, &m, &none)), Some(expected));
+    for (one, told) in REFUSED {
+        assert!(rt; is_refused(&rt, rt.alloc(), *one, *told)?);
     }
     Ok(())
 }
 
+/// The bounds of a variable, the values of its columns, and the operation that doesn't fit.
+const REFUSED_VALUES: &[(Option<i128>, Option<i128>, &[i128], Told)] = &[
+    (Some(HALF), None, &[HALF], (Op::Add, HALF, HALF)),
+    (None, Some(-HALF), &[HALF], (Op::Sub, -HALF, HALF)),
+    (None, None, &[HALF, -HALF], (Op::Sub, HALF, -HALF)),
+];
+
+fn of_one_var(alloc: Global, lower: Option<i128>, upper: Option<i128>) -> Result<Model, Fail> {
+    let (lower, upper) = (lower.map(|n| (n, 1)), upper.map(|n| (n, 1)));
+    let vars = [("x", lower, upper, (0, 1), VarKind::Continuous)];
+    model(alloc, Direction::Maximize, (0, 1), &vars, &[])
+}
+
+fn is_value_refused(
+    rt: &impl Abort,
+    alloc: Global,
+    m: &Model,
+    xs: &[i128],
+    told: Told,
+) -> Result<bool, Fail> {
+    let xs = fracs(alloc, xs)?;
+    Ok(tells(point(rt, alloc, m, &Vec::new(alloc), &xs), told))
+}
+
 #[test]
 fn refused_values(rt: HostRuntime) -> Result<(), Fail> {
-    let alloc = rt.alloc();
-    let half = 1 << 126;
-    let one = [half];
-    let two = [half, -half];
-    let table = [
-        (Some(half), None, one.as_slice(), Op::Add, half, half),
-        (None, Some(-half), one.as_slice(), Op::Sub, -half, half),
-        (None, None, two.as_slice(), Op::Sub, half, -half),
-    ];
-    let none: Vec<Cut> = Vec::new(alloc);
-    for (lower, upper, xs, op, left, right) in table {
-        let bounds = (lower.map(|n| (n, 1)), upper.map(|n| (n, 1)));
-        let vars = [("x", bounds.0, bounds.1, (0, 1), VarKind::Continuous)];
-        let m = model(alloc, Direction::Maximize, (0, 1), &vars, &[])?;
-        let expected = Wide {
-            op,
-            left: whole(left)?,
-            right: whole(right)?,
-        };
-        assert_eq!(rt;
-            wide(point(&rt, alloc, &m, &none, &wholes(alloc, xs)?)),
-            Some(expected)
-        );
+    for (lower, upper, xs, told) in REFUSED_VALUES {
+        let m = of_one_var(rt.alloc(), *lower, *upper)?;
+        assert!(rt; is_value_refused(&rt, rt.alloc(), &m, xs, *told)?);
     }
     Ok(())
 }
