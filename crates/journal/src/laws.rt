@@ -1,13 +1,21 @@
 //! What images are read as, as contracts without code.
 
-ghost use Rattle.std.specs.Prelude.{◌≡◌, ◌⊎◌, ℕ, List, [], ◌∷◌, ◌++◌, Option, None};
+ghost use Rattle.std.specs.Prelude.{◌≡◌, ◌⊎◌, ◌<◌, ℕ, List, [], ◌∷◌, ◌++◌, drop, slice_index, Option, None};
 ghost use Rattle.std.specs.Option.{IsSomeAnd};
 ghost use Rattle.journal.specs.Mounting.{HasHeader, Mends, with_open_gate};
+ghost use Rattle.journal.specs.Reading.{AreRead};
 ghost use Rattle.journal.specs.Records.{records};
 ghost use Rattle.journal.specs.Standing.{Holds, Stands, WhileAdding, bodies_of, doubt_of};
 ghost use Rattle.journal.specs.declared.journal.Journal.{Journal};
 
 use disk_model::Disk;
+
+/// A file is read as the format says: open records behind its header, each with one more byte behind it, up to the first place
+/// where there is none.
+pub fn a_file_is_read_while_its_gates_are_open()
+    ensures so { (file : List ℕ) → ((i : ℕ) → slice_index (drop 8 file) i < 256) → AreRead (records file) (drop 8 file) }
+    ensures only { (bodies : List (List ℕ)) (file : List ℕ) → ((i : ℕ) → slice_index (drop 8 file) i < 256) → AreRead bodies (drop 8 file) → records file ≡ bodies }
+{}
 
 /// An image that holds bodies is read as those, or as those and the one in doubt. It may be opened, and a mounting that is cut
 /// short leaves one that holds the same: so does any number of them.
