@@ -7,7 +7,7 @@ use std::test::Fail;
 
 /// Whole numbers that are a half apart. The lower part of each split is split again, until x is below its bound, and each upper
 /// part has no point.
-const DOWN: &str = "Maximize\n x\nSubject To\n 2 x - 2 y = 1\n x <= 2500\nGenerals\n x y\nEnd\n";
+const DOWN: &str = "Maximize\n x\nSubject To\n 2 x - 2 y = 1\n x <= 5000\nGenerals\n x y\nEnd\n";
 
 fn is_split(node: &CertNode) -> bool {
     match node {
@@ -16,22 +16,22 @@ fn is_split(node: &CertNode) -> bool {
     }
 }
 
-/// Five thousand splits, one below the other, and five thousand leaves behind them.
+/// Ten thousand splits, one below the other, and a leaf more behind them.
 #[test]
-fn a_path_of_ten_thousand_nodes(rt: HostRuntime) -> Result<(), Fail> {
+fn a_path_of_ten_thousand_splits(rt: HostRuntime) -> Result<(), Fail> {
     let alloc = rt.alloc();
     let params = Params {
-        nodes: 20_000,
+        nodes: 30_000,
         ..Params::usual()
     };
     let (found, cert) = solved(&rt, alloc, DOWN, params)?;
-    assert_eq!(rt; (found.status, found.nodes), (3, 10_001));
+    assert_eq!(rt; (found.status, found.nodes), (3, 20_001));
     let Cert::Tree(nodes) = &cert else {
         return Err("no tree")?;
     };
     let nodes = nodes.as_slice();
-    assert_eq!(rt; nodes.len(), 10_001);
-    assert_eq!(rt; nodes.iter().position(|node| !is_split(node)), Some(5_000));
+    assert_eq!(rt; nodes.len(), 20_001);
+    assert_eq!(rt; nodes.iter().position(|node| !is_split(node)), Some(10_000));
     Ok(())
 }
 
@@ -39,9 +39,9 @@ fn a_path_of_ten_thousand_nodes(rt: HostRuntime) -> Result<(), Fail> {
 #[test]
 fn a_cut_far_down(rt: HostRuntime) -> Result<(), Fail> {
     let alloc = rt.alloc();
-    let (found, cert) = cut(&rt, alloc, DOWN, 12_000)?;
+    let (found, cert) = cut(&rt, alloc, DOWN, 24_000)?;
     assert_eq!(rt; found.status, 11);
-    assert_eq!(rt; found.pivots.checked_add(found.nodes), Some(12_000));
+    assert_eq!(rt; found.pivots.checked_add(found.nodes), Some(24_000));
     assert_eq!(rt; cert, Cert::Nothing);
     Ok(())
 }
