@@ -2,7 +2,7 @@
 
 use crate::run;
 use base_io::{Got, MemSink, MemSource, Source};
-use base_names::{NoMemory, append};
+use base_names::NoMemory;
 use disk_model::MemDisk;
 use std::alloc::Global;
 use std::process::Abort;
@@ -401,21 +401,15 @@ fn tells_why_a_text_is_not_solved(rt: HostRuntime) -> Result<(), Fail> {
     Ok(())
 }
 
-/// Runs `verify` over a model's text with a certificate's, where these writes fail.
-fn verified(
-    alloc: Global,
-    model: &[u8],
-    certificate: &[u8],
-    failing: &[u64],
-) -> Result<Ran, NoMemory> {
+/// Runs `verify` over these parts of an input, where these writes fail.
+fn verified(alloc: Global, parts: &[&[u8]], failing: &[u64]) -> Result<Ran, NoMemory> {
     let mut input = Vec::new(alloc);
-    append(&mut input, format_args!("MODEL {}\n", model.len()))?;
-    input.extend_from_slice(model)?;
-    input.extend_from_slice(certificate)?;
+    for part in parts {
+        input.extend_from_slice(part)?;
+    }
     run_over(
         alloc,
-        &["cs_main", "verify", "ada"],
-        &["cs_main", "replay"],
+        &["cs_main", "verify"],
         &mut MemSource::new(input, Vec::new(alloc)),
         failing,
     )
@@ -423,6 +417,8 @@ fn verified(
 
 /// A model without a point, whose certificate has one leaf.
 const POINTLESS: &[u8] = b"Minimize\n x\nSubject To\n x + y >= 3\nBounds\n x <= 1\n y <= 1\nEnd\n";
+
+const NOTHING: &[u8] = b"OUTCOME 8 0 0 0\nNONE\nEND\n";
 
 #[test]
 fn tells_whether_a_certificate_is_valid(rt: HostRuntime) -> Result<(), Fail> {
@@ -448,9 +444,11 @@ fn tells_whether_a_certificate_is_valid(rt: HostRuntime) -> Result<(), Fail> {
         (b"FARKUS\nR 1 -1/3\nEND\n", 9, b"", b"line 3 refused\n"),
     ];
     for (lines, status, output, errors) in rows {
-        let mut certificate = b"OUTCOME 3 3 1 60\n".to_vec(rt.alloc())?;
-        certificate.extend_from_slice(lines)?;
-        let ran = verified(rt.alloc(), POINTLESS, certificate.as_slice(), &[])?;
+        let ran = verified(
+            rt.alloc(),
+            &[b"MODEL 62\n", POINTLESS, b"OUTCOME 3 3 1 60\n", lines],
+            &[],
+        )?;
         assert_eq!(rt; ran.status, *status);
         assert_eq!(rt; ran.output.as_slice(), *output);
         assert_eq!(rt; ran.errors.as_slice(), *errors);
@@ -462,8 +460,11 @@ fn tells_whether_a_certificate_is_valid(rt: HostRuntime) -> Result<(), Fail> {
 fn tells_an_operation_that_does_not_fit(rt: HostRuntime) -> Result<(), Fail> {
     let ran = verified(
         rt.alloc(),
-        b"Maximize\n x + y\nSubject To\n 1e30 x + y <= 1\n x + 1e30 y <= 1\nEnd\n",
-        b"OUTCOME 7 0 0 0\nVALUE 0\nX 1000000000000000000000000000000\nX 0\nNONE\nEND\n",
+        &[
+            b"MODEL 65\n",
+            b"Maximize\n x + y\nSubject To\n 1e30 x + y <= 1\n x + 1e30 y <= 1\nEnd\n",
+            b"OUTCOME 7 0 0 0\nVALUE 0\nX 1000000000000000000000000000000\nX 0\nNONE\nEND\n",
+        ],
         &[],
     )?;
     assert_eq!(rt; ran.status, 11);
@@ -476,14 +477,38 @@ fn tells_an_operation_that_does_not_fit(rt: HostRuntime) -> Result<(), Fail> {
 }
 
 #[test]
-fn tells_why_an_input_is_not_checked(rt: HostRuntime) -> Result<(), Fail> {
-    let ran = verified(rt.alloc(), b"Minimize\n", b"OUTCOME\n", &[])?;
-    assert_eq!(rt; ran.status, 1);
-    assert_eq!(rt;
-        ran.errors.as_slice(),
-        b"model: line 2 column 1 NOSECTION\n".as_slice()
-    );
-    let ran = verified(rt.alloc(), POINTLESS, b"OUTCOME 8 0 0 0\nNONE\nEND\n", &[1])?;
+fn tells_the_first_line_that_is_refused(rt: HostRuntime) -> Result<(), Fail> {
+    let rows: &[(&[u8], &[u8], &[u8])] = &[
+        (b"MODEL 00000000000000000000000062\n", NOTHING, b""),
+        (b"MODEL 62\n", b"", b"line 2 refused\n"),
+        (b"MODEL 62\r\n", NOTHING, b"line 1 refused\n"),
+        (b"MODEL  62\n", NOTHING, b"line 1 refused\n"),
+        (b"MODEL +62\n", NOTHING, b"line 1 refused\n"),
+        (b"MODEL \n", NOTHING, b"line 1 refused\n"),
+        // One byte more than there are, and more than any number of the program.
+        (b"MODEL 88\n", NOTHING, b"line 1 refused\n"),
+        (
+            b"MODEL 99999999999999999999999999999999999999999\n",
+            NOTHING,
+            b"line 1 refused\n",
+        ),
+        (b"MODEL 61\n", NOTHING, b"line 2 refused\n"),
+        (
+            b"MODEL 52\n",
+            NOTHING,
+            b"model: line 7 column 3 NOSECTION\n",
+        ),
+    ];
+    for (line, certificate, errors) in rows {
+        let ran = verified(rt.alloc(), &[line, POINTLESS, certificate], &[])?;
+        assert_eq!(rt; ran.errors.as_slice(), *errors);
+    }
+    Ok(())
+}
+
+#[test]
+fn tells_that_a_verdict_is_not_written(rt: HostRuntime) -> Result<(), Fail> {
+    let ran = verified(rt.alloc(), &[b"MODEL 62\n", POINTLESS, NOTHING], &[1])?;
     assert_eq!(rt; ran.status, 4);
     assert_eq!(rt; ran.output.as_slice(), b"".as_slice());
     assert_eq!(rt; ran.errors.as_slice(), b"write fault\n".as_slice());

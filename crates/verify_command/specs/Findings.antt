@@ -51,7 +51,7 @@ pub record IsFinding (input : List ℕ) (found : Finding) : Type 0 where
 -- ---- what a valid certificate shows
 
 -- An optimal outcome's point is best of all points of the model, an infeasible model has none, and an unbounded one has better
--- points than any number. A point that is kept with another status is feasible, with its value.
+-- points than any number. A point that is kept is feasible, with its value, whatever the status.
 pub record IsShown (m : Model) (o : Outcome) : Type 0 where
   pub best : o.status ≡ OPTIMAL → (p : Point) × (o.point ≡ Some p) × IsBestPoint m p
   pub no_point : o.status ≡ INFEASIBLE → HasNoPoint m
