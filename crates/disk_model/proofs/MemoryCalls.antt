@@ -81,13 +81,13 @@ adds was now call old new more before = by (new == 0) refl where
   by false is = tt
   by true is = (was, ap (λ (b : Bool). if b then Some was else None) (sym (is_zero old (before (zero_is new is)))), more)
 
-failed_is : (call : DiskCall) → HasFailed call → has_failed call ≡ true
+pub failed_is : (call : DiskCall) → HasFailed call → has_failed call ≡ true
 failed_is (LenCall answer) is = ap (λ a. has_failed (LenCall a)) is
 failed_is (ReadCall at len answer) is = ap (λ a. has_failed (ReadCall at len a)) is
 failed_is (WriteCall at bytes answer) is = ap (λ a. has_failed (WriteCall at bytes a)) is
 failed_is (SyncCall answer) is = ap (λ a. has_failed (SyncCall a)) is
 
-not_failed : (call : DiskCall) → (HasFailed call → ⊥) → has_failed call ≡ false
+pub not_failed : (call : DiskCall) → (HasFailed call → ⊥) → has_failed call ≡ false
 not_failed (LenCall (Len len)) other = refl
 not_failed (LenCall NoLen) other = absurd (other refl)
 not_failed (ReadCall at len Done) other = refl

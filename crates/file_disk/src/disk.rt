@@ -1,9 +1,8 @@
 //! The disk over a file.
 
-ghost use Rattle.std.specs.Prelude.{◌≡◌, ◌≤◌, ◌∷◌, ◌++◌, [], length};
+ghost use Rattle.std.specs.Prelude.{◌≡◌, ◌≤◌, ◌∷◌, ◌++◌, [], length, if◌then◌else◌};
 ghost use Rattle.base_names.specs.Outside.{one_more};
 ghost use Rattle.disk_model.specs.Made.{call_of, has_failed};
-ghost use Rattle.file_disk.specs.Told.{IsNoted};
 
 use crate::file::open;
 use disk_model::{CallLog, Disk, DiskDone, DiskLen, Made};
@@ -90,7 +89,8 @@ impl<R: Files<File = File>> FileDisk<R> {
 
     /// A call ends. The bytes are those of a write.
     fn finish(&mut self, made: Made, bytes: &[u8])
-        ensures noted { IsNoted (call_of made bytes.now) self.old self.new }
+        ensures calls { self.new.log.calls ≡ self.old.log.calls ++ call_of made bytes.now ∷ [] }
+        ensures failed { self.new.failed ≡ (if has_failed (call_of made bytes.now) then one_more self.old.failed else self.old.failed) }
         ensures later { self.old.failed ≤ self.new.failed }
     {
         self.log.note(&made, bytes);
