@@ -1,6 +1,6 @@
 -- What the plain solver gives has a text.
 use Rattle.std.proofs.Common.{◌≡◌, refl, sym, ap, subst, Bool, true, false, true≢false, ℕ, ℤ, zero, suc, ◌+◌, ◌<◌, ◌++◌, List, [], ◌∷◌, Option, Some, None, Result, Ok, Err, arith}
-use Rattle.std.specs.Prelude.{◌==◌, ◌&&◌, nat_le, nat_lt, not, is_some, sum_by, if◌then◌else◌}
+use Rattle.std.specs.Prelude.{◌==◌, ◌&&◌, nat_le, nat_lt, not, is_some, sum_by}
 use Rattle.std.specs.List.{list_all}
 use Rattle.std.proofs.lemmas.Bool.{cond_both, eqb-false, eqb-true, lt-ltb}
 use Rattle.frac128.specs.Fraction.{Fraction}
@@ -24,11 +24,10 @@ use Rattle.solve_defs.specs.Bounds.{at_least_cut, at_most_cut}
 use Rattle.solve_defs.specs.Certificates.{IsValid}
 use Rattle.solve_defs.specs.Kinds.{are_continuous}
 use Rattle.solve_defs.specs.Path.{Coming, Entering, a_pivot, an_end, coming, entry_count, next}
-use Rattle.solve_defs.specs.Plain.{Node, Placed, Progress, Search, Turn, at_fractional, at_point, begun, begun_with, best_turn, bound_turn, bound_weights, both_back, cut_off, farkas_weights, finish, finished, first_fractional, going, improves, next_node, node_turn, outcome, over, pivot_turn, pivoted_to, plain_cut, point_turn, pointless_turn, ray_turn, rooted, run, silent, split_turn, start, stopped, turn, turn_at, turn_on, unbounded_turn, with_finished}
+use Rattle.solve_defs.specs.Plain.{Node, Placed, Progress, Search, Turn, at_fractional, at_point, begun, begun_with, best_turn, bound_turn, both_back, cut_off, farkas_weights, finish, going, improves, node_turn, over, pivot_turn, pivoted_to, plain_cut, pointless_turn, ray_turn, rooted, run, silent, split_turn, start, stopped, turn, turn_at, turn_on, unbounded_turn, with_finished}
 use Rattle.solve_defs.specs.StandardForm.{low_weights, numbered, row_weights, shapes_of, standard_form, up_weights, weights_back}
 use Rattle.solve_defs.specs.Values.{is_zero}
 use Rattle.solve_defs.specs.declared.cut.Cut.{Cut}
-use Rattle.solve_defs.specs.declared.solving.LpEnd.{LpEnd}
 use Rattle.solve_defs.specs.declared.solving.LpEnd.TheVariants.{Best, NoPoint, Unbounded}
 use Rattle.solve_defs.proofs.ValidTrees.{tree_shape}
 use Rattle.search_laws.specs.Turns.{SaysWhy}

@@ -1,5 +1,5 @@
 -- What `solve` answers for a text, and what it did to its source and its sink, by its end.
-use Rattle.std.specs.Prelude.{ℕ, ◌≡◌, ◌≤◌, ◌<◌, ◌⊎◌, List, [], ◌++◌, length, Option, Result, Ok, Err}
+use Rattle.std.specs.Prelude.{ℕ, ◌≡◌, ◌≤◌, ◌<◌, ◌⊎◌, List, length, Option}
 use Rattle.base_names.specs.Outside.{IsAtEnd, Writes}
 use Rattle.base_names.specs.Prefix.{IsPrefix}
 use Rattle.base_names.specs.declared.refusal.FaultWord.TheVariants.{Size}

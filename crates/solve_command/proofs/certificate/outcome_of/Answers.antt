@@ -1,5 +1,5 @@
-use Rattle.std.proofs.Common.{◌≡◌, ◌∙◌, ap, sym}
-use Rattle.solve_defs.specs.Plain.{Ended, Progress, cut_off}
+use Rattle.std.proofs.Common.{◌∙◌, ap, sym}
+use Rattle.solve_defs.specs.Plain.{Progress, cut_off}
 use Rattle.solve_command.proofs.Turns.{under_end, under_fewer, under_first, under_next}
 use Rattle.solve_command.proofs.certificate.outcome_of.Goals as goal
 
