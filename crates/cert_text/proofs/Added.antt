@@ -1,10 +1,10 @@
 -- Entries that are written one by one.
-use Rattle.std.proofs.Common.{◌≡◌, refl, sym, ◌∙◌, ap, subst, ℕ, ◌+◌, ◌<◌, List, [], ◌∷◌, ◌++◌, length, map, flat_map, take, get_or, arith, append_assoc, Result}
+use Rattle.std.proofs.Common.{◌≡◌, refl, sym, ◌∙◌, ap, subst, ℕ, ◌+◌, ◌<◌, List, [], ◌∷◌, ◌++◌, length, map, flat_map, take, get_or, append_assoc, Result}
 use Rattle.std.specs.Result.{OnOk}
 use Rattle.std.proofs.lemmas.Result.{on_ok_weaker}
 use Rattle.std.proofs.lemmas.Grind.{flat_map-append}
 use Rattle.std.proofs.lemmas.List.{append-nil, take_more}
-use Rattle.cert_text.specs.Entries.{HasNumbers, HaveNumbers, IsAdded, entry_text, line, text_of}
+use Rattle.cert_text.specs.Entries.{HaveNumbers, IsAdded, entry_text, line, text_of}
 use Rattle.cert_text.specs.declared.entry.Entry.{Entry}
 
 pub nothing_added : (out : List ℕ) → IsAdded out out []

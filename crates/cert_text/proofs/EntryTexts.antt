@@ -1,8 +1,7 @@
 -- A line is read as the entry whose text it is, and as no other.
-use Rattle.std.proofs.Common.{◌≡◌, ◌↔◌, refl, sym, ◌∙◌, ap, ap₂, subst, lit≤, ℕ, ◌^◌, ◌<◌, ◌≤◌, true, List, [], ◌∷◌, ◌++◌, Option, Some, None, decimal, codes, arith, ℤ, unsigned_abs, lit<}
-use Rattle.std.specs.Prelude.{bytes_eq, find, option_map}
+use Rattle.std.proofs.Common.{◌≡◌, ◌↔◌, refl, sym, ◌∙◌, ap, ap₂, subst, lit≤, ℕ, ◌^◌, ◌<◌, List, ◌∷◌, ◌++◌, Option, Some, None, decimal, codes, arith, ℤ}
+use Rattle.std.specs.Prelude.{bytes_eq, option_map}
 use Rattle.std.specs.Fmt.{signed_decimal}
-use Rattle.frac128.specs.Fraction.{Fraction}
 use Rattle.frac128.specs.Text.{canonical_text, op_word, wide_text}
 use Rattle.frac128.specs.declared.operations.Op.{Op}
 use Rattle.frac128.specs.declared.operations.Op.TheVariants.{Add, Sub, Mul, Div}

@@ -1,8 +1,8 @@
 -- Each sound stage can be gone on with to the end.
-use Rattle.std.proofs.Common.{◌≡◌, refl, sym, ◌∙◌, ap, subst, ℕ, zero, suc, ◌+◌, ◌-◌, ◌^◌, ◌<◌, ◌==◌, Bool, true, false, List, [], ◌∷◌, ◌++◌, flat_map, Option, Some, None, arith, append_assoc, ℤ, pos}
-use Rattle.std.specs.Prelude.{◌&&◌, is_some, if◌then◌else◌}
+use Rattle.std.proofs.Common.{◌≡◌, refl, sym, ◌∙◌, ap, subst, ℕ, zero, suc, ◌+◌, ◌-◌, ◌==◌, Bool, true, false, List, [], ◌∷◌, ◌++◌, flat_map, Option, Some, None, arith, append_assoc}
+use Rattle.std.specs.Prelude.{is_some}
 use Rattle.std.specs.List.{list_all}
-use Rattle.std.proofs.lemmas.Bool.{and_from, eqb-false, false≢true}
+use Rattle.std.proofs.lemmas.Bool.{and_from}
 use Rattle.std.proofs.lemmas.Grind.{flat_map-append}
 use Rattle.std.proofs.lemmas.List.{append-nil}
 use Rattle.frac128.specs.Fraction.{zero_value}
@@ -17,9 +17,8 @@ use Rattle.model_data.specs.declared.solution.WideAt.{WideAt}
 use Rattle.solve_defs.specs.Certificates.{are_whole}
 use Rattle.solve_defs.specs.declared.status.TheConstants.{NUMERIC}
 use Rattle.cert_text.specs.Entries.{HaveNumbers}
-use Rattle.cert_text.specs.Spelling.{IsWritable, cert_entries, entries, is_lawful_node, node_entries, outcome_entries, point_entries, wide_entries}
-use Rattle.cert_text.specs.Stages.{missing_behind, no_weights}
-use Rattle.cert_text.specs.declared.entry.Claim.TheVariants as claim
+use Rattle.cert_text.specs.Spelling.{IsWritable, cert_entries, entries, is_lawful_node, node_entries, outcome_entries, point_entries}
+use Rattle.cert_text.specs.Stages.{no_weights}
 use Rattle.cert_text.specs.declared.entry.Entry.{Entry}
 use Rattle.cert_text.specs.declared.entry.Entry.TheVariants as entry
 use Rattle.cert_text.specs.declared.stage.Stage.{Stage}

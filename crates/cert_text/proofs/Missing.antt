@@ -1,5 +1,5 @@
 -- A line adds at most one to the subtrees that are to come, and the first line of a tree makes them at most 2.
-use Rattle.std.proofs.Common.{◌≡◌, refl, sym, ◌∙◌, ap, subst, ℕ, ◌+◌, ◌-◌, ◌≤◌, ◌==◌, Bool, true, false, List, [], ◌∷◌, ◌++◌, Option, Some, None, arith}
+use Rattle.std.proofs.Common.{◌≡◌, refl, subst, ℕ, ◌+◌, ◌≤◌, ◌==◌, Bool, true, false, List, [], ◌∷◌, ◌++◌, Option, Some, None, arith}
 use Rattle.std.specs.Prelude.{◌&&◌, is_none, is_some, option_map, if◌then◌else◌}
 use Rattle.std.proofs.Math.Bool.{beq}
 use Rattle.frac128.specs.Fraction.{Fraction}
@@ -12,7 +12,7 @@ use Rattle.model_data.specs.declared.solution.WideAt.{WideAt}
 use Rattle.solve_defs.specs.declared.status.TheConstants.{NUMERIC}
 use Rattle.cert_text.specs.Lines.{stage_behind}
 use Rattle.cert_text.specs.Reading.{entry_of}
-use Rattle.cert_text.specs.Stages.{begun_cert, begun_tree, is_empty, missing_behind, missing_of, next, node_begun, with_coordinate, with_weight}
+use Rattle.cert_text.specs.Stages.{begun_cert, is_empty, missing_behind, missing_of, next, node_begun, with_coordinate, with_weight}
 use Rattle.cert_text.specs.declared.entry.Claim.TheVariants as claim
 use Rattle.cert_text.specs.declared.entry.Entry.{Entry}
 use Rattle.cert_text.specs.declared.entry.Entry.TheVariants as entry
@@ -20,7 +20,7 @@ use Rattle.cert_text.specs.declared.entry.Vector.TheVariants as vector
 use Rattle.cert_text.specs.declared.stage.RaySoFar.{RaySoFar}
 use Rattle.cert_text.specs.declared.stage.Stage.{Stage}
 use Rattle.cert_text.specs.declared.stage.Stage.TheVariants as stage
-use Rattle.cert_text.proofs.Basics.{bound, mapped}
+use Rattle.cert_text.proofs.Basics.{bound}
 
 -- a choice of a stage with none to come
 abbrev HasNone : Option Stage → Type 0

@@ -1,17 +1,15 @@
 -- A text is read line by line: what it gives, and where it stops.
-use Rattle.std.proofs.Common.{◌≡◌, refl, sym, ◌∙◌, ap, ap₂, subst, ℕ, zero, suc, ◌+◌, ◌<◌, ◌==◌, Bool, true, false, not, List, [], ◌∷◌, ◌++◌, length, map, flat_map, Option, Some, None, Result, Ok, Err, arith, append_assoc, All, codes, get_or}
-use Rattle.std.specs.Prelude.{if◌then◌else◌}
-use Rattle.std.specs.List.{join_with_byte, list_all, onto_first, slice_split}
-use Rattle.std.proofs.lemmas.Bool.{and_parts, and_from, eqb-true}
+use Rattle.std.proofs.Common.{◌≡◌, refl, sym, ◌∙◌, ap, ap₂, ℕ, suc, ◌+◌, ◌==◌, Bool, true, false, not, List, [], ◌∷◌, ◌++◌, length, Option, Some, None, Result, Ok, Err, arith, append_assoc, All, get_or}
+use Rattle.std.specs.List.{slice_split}
 use Rattle.std.proofs.lemmas.List.{append-nil}
 use Rattle.std.proofs.lemmas.List.Sums.{AllPass-from_list_all}
-use Rattle.std.proofs.lemmas.List.Splits.{join_with_byte-slice_split, slice_split_at, slice_split_none}
+use Rattle.std.proofs.lemmas.List.Splits.{slice_split_at, slice_split_none}
 use Rattle.model_data.specs.declared.solution.Cert.{Cert}
 use Rattle.model_data.specs.declared.solution.Outcome.{Outcome}
-use Rattle.cert_text.specs.Entries.{HasNumbers, HaveNumbers, entry_text, line, text_of}
+use Rattle.cert_text.specs.Entries.{HaveNumbers, entry_text, line, text_of}
 use Rattle.cert_text.specs.Lines.{ending, or_bad, reading, reading_from, stage_behind}
 use Rattle.cert_text.specs.Reading.{◌>>=◌, entry_of}
-use Rattle.cert_text.specs.Spelling.{Spells, entries, is_one_line, text_of_lines}
+use Rattle.cert_text.specs.Spelling.{Spells, entries, is_one_line}
 use Rattle.cert_text.specs.Stages.{next}
 use Rattle.cert_text.specs.declared.entry.Entry.{Entry}
 use Rattle.cert_text.specs.declared.proof.Proof.{Proof}

@@ -1,9 +1,9 @@
 -- The entries of what can be written lead through all stages.
-use Rattle.std.proofs.Common.{◌≡◌, refl, sym, ◌∙◌, ap, ap₂, subst, ℕ, zero, suc, ◌+◌, ◌-◌, ◌<◌, ◌==◌, Bool, true, false, not, List, [], ◌∷◌, ◌++◌, map, flat_map, Option, Some, None, arith, append_assoc}
-use Rattle.std.specs.Prelude.{◌&&◌, is_some, nat_lt, if◌then◌else◌}
+use Rattle.std.proofs.Common.{◌≡◌, refl, sym, ◌∙◌, ap, subst, ℕ, zero, suc, ◌+◌, ◌-◌, ◌==◌, Bool, true, false, List, [], ◌∷◌, ◌++◌, map, flat_map, Option, Some, None, arith, append_assoc}
+use Rattle.std.specs.Prelude.{◌&&◌, is_some, if◌then◌else◌}
 use Rattle.std.specs.List.{list_all}
 use Rattle.std.proofs.Math.Bool.{beq}
-use Rattle.std.proofs.lemmas.Bool.{and_parts, and_from, eqb-true, ne_eqb}
+use Rattle.std.proofs.lemmas.Bool.{and_parts, ne_eqb}
 use Rattle.std.proofs.lemmas.List.{append-nil}
 use Rattle.frac128.specs.Fraction.{Fraction}
 use Rattle.model_data.specs.declared.solution.Cert.{Cert}
@@ -16,7 +16,6 @@ use Rattle.model_data.specs.declared.solution.Weight.{Weight}
 use Rattle.model_data.specs.declared.solution.Weights.{Weights}
 use Rattle.model_data.specs.declared.solution.WideAt.{WideAt}
 use Rattle.solve_defs.specs.Certificates.{are_whole}
-use Rattle.solve_defs.specs.Values.{is_zero}
 use Rattle.solve_defs.specs.declared.status.TheConstants.{NUMERIC}
 use Rattle.cert_text.specs.Reading.{◌>>=◌}
 use Rattle.cert_text.specs.Spelling.{IsWritable, are_lawful, are_rising, cert_entries, components, entries, is_lawful_node, node_entries, outcome_entries, point_entries, weight_entries, wide_entries}
@@ -27,10 +26,9 @@ use Rattle.cert_text.specs.declared.entry.Entry.{Entry}
 use Rattle.cert_text.specs.declared.entry.Entry.TheVariants as entry
 use Rattle.cert_text.specs.declared.entry.Side.TheVariants as side
 use Rattle.cert_text.specs.declared.entry.Vector.TheVariants as vector
-use Rattle.cert_text.specs.declared.stage.RaySoFar.{RaySoFar}
 use Rattle.cert_text.specs.declared.stage.Stage.{Stage}
 use Rattle.cert_text.specs.declared.stage.Stage.TheVariants as stage
-use Rattle.cert_text.proofs.Stages.{HasWide, IsSound, IsStep, last_place-more, read_so_far}
+use Rattle.cert_text.proofs.Stages.{HasWide, IsSound, last_place-more, read_so_far}
 use Rattle.cert_text.proofs.Steps.{step}
 
 -- the stage behind entries

@@ -1,34 +1,25 @@
 -- What a stage has read, and that each step reads one entry more.
-use Rattle.std.proofs.Common.{◌≡◌, refl, sym, ◌∙◌, ap, ap₂, subst, ℕ, zero, suc, ◌+◌, ◌-◌, ◌<◌, ◌≤◌, ◌==◌, Bool, true, false, not, List, [], ◌∷◌, ◌++◌, length, map, flat_map, Option, Some, None, arith, append_assoc}
-use Rattle.std.specs.Prelude.{◌&&◌, is_some, is_none, nat_lt, option_map, slice_get, if◌then◌else◌}
+use Rattle.std.proofs.Common.{◌≡◌, refl, sym, ◌∙◌, ap, subst, ℕ, zero, suc, ◌+◌, ◌-◌, ◌<◌, ◌==◌, Bool, true, false, not, List, [], ◌∷◌, ◌++◌, length, map, Some, arith, append_assoc}
+use Rattle.std.specs.Prelude.{◌&&◌, is_some, nat_lt, slice_get}
 use Rattle.std.specs.List.{list_all}
-use Rattle.std.proofs.Math.Bool.{beq}
-use Rattle.std.proofs.lemmas.Bool.{and_parts, and_from, eqb-true, false≢true}
-use Rattle.std.proofs.lemmas.Grind.{flat_map-append}
+use Rattle.std.proofs.lemmas.Bool.{and_parts, and_from}
 use Rattle.std.proofs.lemmas.List.{append-nil, length-append}
-use Rattle.frac128.specs.Fraction.{Fraction}
-use Rattle.model_data.specs.declared.solution.Cert.{Cert}
-use Rattle.model_data.specs.declared.solution.Cert.TheVariants.{Nothing, Ray, Tree}
+use Rattle.model_data.specs.declared.solution.Cert.TheVariants.{Ray, Tree}
 use Rattle.model_data.specs.declared.solution.CertNode.{CertNode}
 use Rattle.model_data.specs.declared.solution.CertNode.TheVariants.{Split, Bound, Farkas}
 use Rattle.model_data.specs.declared.solution.Outcome.{Outcome}
-use Rattle.model_data.specs.declared.solution.Point.{Point}
 use Rattle.model_data.specs.declared.solution.Weight.{Weight}
 use Rattle.model_data.specs.declared.solution.Weights.{Weights}
-use Rattle.model_data.specs.declared.solution.WideAt.{WideAt}
 use Rattle.solve_defs.specs.Certificates.{are_whole}
 use Rattle.solve_defs.specs.Values.{is_zero}
 use Rattle.solve_defs.specs.declared.status.TheConstants.{NUMERIC}
-use Rattle.cert_text.specs.Spelling.{IsWritable, are_lawful, are_rising, cert_entries, components, entries, is_lawful_cert, is_lawful_node, node_entries, outcome_entries, point_entries, weight_entries, wide_entries}
-use Rattle.cert_text.specs.Stages.{begun, begun_cert, begun_tree, behind_nothing, behind_outcome, behind_ray, behind_tree, is_empty, last_place, may_follow, missing_behind, next, no_ray, no_weights, node_begun, weights_with, with_coordinate, with_weight}
+use Rattle.cert_text.specs.Spelling.{IsWritable, are_lawful, are_rising, cert_entries, entries, is_lawful_node, node_entries, outcome_entries, weight_entries}
+use Rattle.cert_text.specs.Stages.{is_empty, last_place, may_follow, missing_behind, weights_with, with_weight}
 use Rattle.cert_text.specs.declared.entry.Claim.TheVariants as claim
 use Rattle.cert_text.specs.declared.entry.Entry.{Entry}
 use Rattle.cert_text.specs.declared.entry.Entry.TheVariants as entry
 use Rattle.cert_text.specs.declared.entry.Side.{Side}
 use Rattle.cert_text.specs.declared.entry.Side.TheVariants as side
-use Rattle.cert_text.specs.declared.entry.Vector.TheVariants as vector
-use Rattle.cert_text.specs.declared.proof.Proof.{Proof}
-use Rattle.cert_text.specs.declared.stage.RaySoFar.{RaySoFar}
 use Rattle.cert_text.specs.declared.stage.Stage.{Stage}
 use Rattle.cert_text.specs.declared.stage.Stage.TheVariants as stage
 use Rattle.cert_text.proofs.Basics.{chosen, mapped}

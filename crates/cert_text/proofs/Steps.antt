@@ -1,5 +1,5 @@
 -- Each step reads its entry, and leads to a sound stage.
-use Rattle.std.proofs.Common.{◌≡◌, refl, sym, ◌∙◌, ap, ap₂, subst, ℕ, zero, suc, ◌+◌, ◌-◌, ◌<◌, ◌==◌, Bool, true, false, List, [], ◌∷◌, ◌++◌, map, flat_map, Option, Some, None, arith, append_assoc}
+use Rattle.std.proofs.Common.{◌≡◌, refl, sym, ◌∙◌, ap, subst, ℕ, ◌+◌, ◌-◌, ◌==◌, Bool, true, false, List, [], ◌∷◌, ◌++◌, flat_map, Option, Some, None, arith, append_assoc}
 use Rattle.std.specs.List.{list_all}
 use Rattle.std.specs.Prelude.{◌&&◌, is_some, is_none, option_map, if◌then◌else◌}
 use Rattle.std.proofs.Math.Bool.{beq}
@@ -7,7 +7,6 @@ use Rattle.std.proofs.lemmas.Bool.{and_parts, and_from, eqb-true, eqb-false}
 use Rattle.std.proofs.lemmas.Grind.{flat_map-append}
 use Rattle.std.proofs.lemmas.List.{append-nil}
 use Rattle.frac128.specs.Fraction.{Fraction}
-use Rattle.model_data.specs.declared.solution.Cert.{Cert}
 use Rattle.model_data.specs.declared.solution.Cert.TheVariants.{Nothing, Ray, Tree}
 use Rattle.model_data.specs.declared.solution.CertNode.{CertNode}
 use Rattle.model_data.specs.declared.solution.CertNode.TheVariants.{Split, Bound, Farkas}
@@ -16,7 +15,7 @@ use Rattle.model_data.specs.declared.solution.Point.{Point}
 use Rattle.model_data.specs.declared.solution.WideAt.{WideAt}
 use Rattle.solve_defs.specs.Certificates.{are_whole}
 use Rattle.solve_defs.specs.declared.status.TheConstants.{NUMERIC}
-use Rattle.cert_text.specs.Spelling.{cert_entries, components, is_lawful_cert, is_lawful_node, node_entries, outcome_entries, point_entries, wide_entries}
+use Rattle.cert_text.specs.Spelling.{cert_entries, components, is_lawful_node, node_entries, outcome_entries, point_entries}
 use Rattle.cert_text.specs.Stages.{begun, begun_cert, begun_tree, behind_nothing, behind_outcome, behind_ray, behind_tree, is_empty, missing_behind, next, no_ray, no_weights, node_begun, with_coordinate, with_point, with_weight}
 use Rattle.cert_text.specs.declared.entry.Claim.TheVariants as claim
 use Rattle.cert_text.specs.declared.entry.Entry.{Entry}
@@ -26,7 +25,7 @@ use Rattle.cert_text.specs.declared.stage.RaySoFar.{RaySoFar}
 use Rattle.cert_text.specs.declared.stage.Stage.{Stage}
 use Rattle.cert_text.specs.declared.stage.Stage.TheVariants as stage
 use Rattle.cert_text.proofs.Basics.{chosen, mapped}
-use Rattle.cert_text.proofs.Stages.{HasWide, IsNodeFurther, IsSound, IsStep, IsTreeSoFar, MayHaveWide, are_whole-from, front-all, go_on, left_behind, more-map, node-further, nothing_in, read_so_far, tree-last, tree-more}
+use Rattle.cert_text.proofs.Stages.{HasWide, IsSound, IsStep, are_whole-from, front-all, go_on, left_behind, more-map, node-further, nothing_in, tree-last, tree-more}
 
 same_from_beq : (a b : Bool) → beq a b ≡ true → a ≡ b
 same_from_beq true true h = refl

@@ -1,5 +1,5 @@
 -- What a line of a certificate's text says, and how that is written.
-use Rattle.std.specs.Prelude.{◌≡◌, ℕ, ◌^◌, ◌<◌, List, [], ◌∷◌, ◌++◌, flat_map, codes, decimal, ℤ, pos, neg_ℤ, ◌≤ℤ◌, ◌<ℤ◌}
+use Rattle.std.specs.Prelude.{◌≡◌, ℕ, ◌^◌, ◌<◌, List, [], ◌∷◌, ◌++◌, flat_map, codes, decimal, pos, neg_ℤ, ◌≤ℤ◌, ◌<ℤ◌}
 use Rattle.std.specs.Fmt.{signed_decimal}
 use Rattle.frac128.specs.Lowest.{IsKept}
 use Rattle.frac128.specs.Text.{canonical_text, space, wide_text}
@@ -11,7 +11,6 @@ use Rattle.cert_text.specs.declared.entry.Side.{Side}
 use Rattle.cert_text.specs.declared.entry.Side.TheVariants as side
 use Rattle.cert_text.specs.declared.entry.Vector.{Vector}
 use Rattle.cert_text.specs.declared.entry.Vector.TheVariants as vector
-use Rattle.model_data.specs.declared.solution.Weight.{Weight}
 
 abbrev pub vector_word : Vector → List ℕ
 vector_word vector.X = codes "X"

@@ -1,5 +1,5 @@
 -- Lines read from the left, as functions that compute.
-use Rattle.std.specs.Prelude.{ℕ, ◌+◌, ◌^◌, ◌==◌, Bool, true, false, List, [], ◌∷◌, length, take, drop, bytes_eq, codes, find, position, ℤ, pos, neg_ℤ, Option, Some, None, option_map, Result, Ok, Err, if◌then◌else◌}
+use Rattle.std.specs.Prelude.{ℕ, ◌+◌, ◌^◌, ◌==◌, List, [], ◌∷◌, take, drop, bytes_eq, codes, find, position, ℤ, pos, neg_ℤ, Option, Some, None, option_map, Result, Ok, Err, if◌then◌else◌}
 use Rattle.base_names.specs.Decimal.{below, decimal_of}
 use Rattle.frac128.specs.Fraction.{Fraction}
 use Rattle.frac128.specs.Text.{canonical_text, op_word}

@@ -1,5 +1,5 @@
 -- The text of an outcome with its certificate, and the first bad line of a text that is none.
-use Rattle.std.specs.Prelude.{◌≡◌, ℕ, suc, ◌==◌, Bool, true, false, not, ◌&&◌, nat_lt, List, [], ◌∷◌, ◌++◌, length, map, flat_map, Option, Some, None, is_some, Result, Ok, Err}
+use Rattle.std.specs.Prelude.{◌≡◌, ℕ, suc, ◌==◌, Bool, true, not, ◌&&◌, nat_lt, List, [], ◌∷◌, ◌++◌, length, map, flat_map, Option, Some, None, is_some, Result, Ok, Err}
 use Rattle.std.specs.List.{list_all}
 use Rattle.base_names.specs.declared.memory.OrMemory.{OrMemory}
 use Rattle.base_names.specs.declared.memory.OrMemory.TheVariants.{Fault, NoMemory}

@@ -12,7 +12,6 @@ use Rattle.model_data.specs.declared.solution.Weights.{Weights}
 use Rattle.model_data.specs.declared.solution.WideAt.{WideAt}
 use Rattle.solve_defs.specs.Values.{is_zero}
 use Rattle.solve_defs.specs.declared.status.TheConstants.{NUMERIC}
-use Rattle.cert_text.specs.declared.entry.Claim.{Claim}
 use Rattle.cert_text.specs.declared.entry.Claim.TheVariants as claim
 use Rattle.cert_text.specs.declared.entry.Entry.{Entry}
 use Rattle.cert_text.specs.declared.entry.Entry.TheVariants as entry

@@ -1,8 +1,8 @@
-use Rattle.std.proofs.Common.{◌≡◌, ◌==◌, ◌<◌, sym, ◌∙◌, ap, subst, arith, ◌+◌, ◌-◌, length, take, drop, List, ℕ}
+use Rattle.std.proofs.Common.{◌≡◌, ◌==◌, sym, ◌∙◌, ap, subst, arith, ◌+◌, ◌-◌, length, take, drop, List, ℕ}
 use Rattle.std.specs.List.{slice_split}
 use Rattle.std.proofs.lemmas.Grind.{common_steps}
 use Rattle.std.proofs.lemmas.List.Quantifiers.{position-Some}
-use Rattle.cert_text.specs.Lines.{IsReadAs, ending, reading, reading_from}
+use Rattle.cert_text.specs.Lines.{IsReadAs, reading_from}
 use Rattle.cert_text.proofs.FirstBadLine.{comes_to, goes_on, never_empty, split_at_place, split_nowhere, stops}
 use Rattle.cert_text.proofs.Missing.{behind_missing}
 use Rattle.cert_text.proofs.reading.read_lines.Goals as goal

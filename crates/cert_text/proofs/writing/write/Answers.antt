@@ -1,4 +1,4 @@
-use Rattle.std.proofs.Common.{List, ℕ, [], ◌∷◌, ◌++◌, ap, sym, ◌∙◌, subst, append_assoc}
+use Rattle.std.proofs.Common.{List, ℕ, [], ◌∷◌, ◌++◌, ap, ◌∙◌, subst, append_assoc}
 use Rattle.cert_text.specs.Entries.{HaveNumbers, text_of}
 use Rattle.cert_text.specs.Spelling.{cert_entries, outcome_entries}
 use Rattle.cert_text.specs.declared.entry.Entry.TheVariants as entry

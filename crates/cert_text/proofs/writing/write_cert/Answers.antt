@@ -1,4 +1,4 @@
-use Rattle.std.proofs.Common.{refl, sym, ◌∙◌, ap}
+use Rattle.std.proofs.Common.{sym, ap}
 use Rattle.cert_text.specs.Spelling.{cert_entries}
 use Rattle.cert_text.proofs.Added.{both_added, last_added}
 use Rattle.cert_text.proofs.writing.write_cert.Goals as goal

@@ -1,4 +1,4 @@
-use Rattle.std.proofs.Common.{[], ◌∷◌, ◌++◌, ap, append_assoc, map}
+use Rattle.std.proofs.Common.{◌∷◌, ap, append_assoc, map}
 use Rattle.cert_text.specs.declared.entry.Entry.TheVariants as entry
 use Rattle.cert_text.specs.declared.entry.Side.TheVariants as side
 use Rattle.cert_text.proofs.Added.{both_added, last_added}

@@ -1,6 +1,5 @@
-use Rattle.std.proofs.Common.{ltb-true, rules}
+use Rattle.std.proofs.Common.{rules}
 use Rattle.cert_text.specs.Spelling.{node_entries}
-use Rattle.cert_text.specs.declared.entry.Entry.TheVariants as entry
 use Rattle.cert_text.proofs.Added.{flat_map_added}
 use Rattle.cert_text.proofs.writing.write_nodes.Goals as goal
 

@@ -1,4 +1,4 @@
-use Rattle.std.proofs.Common.{[], ◌∷◌, ap, sym, ◌∙◌, List, map}
+use Rattle.std.proofs.Common.{◌∷◌, ap, sym, ◌∙◌, List}
 use Rattle.frac128.specs.Fraction.{Fraction}
 use Rattle.cert_text.specs.Spelling.{components, point_entries}
 use Rattle.cert_text.specs.declared.entry.Entry.TheVariants as entry

@@ -1,5 +1,4 @@
-use Rattle.std.proofs.Common.{ltb-true, rules}
-use Rattle.cert_text.specs.Spelling.{node_entries}
+use Rattle.std.proofs.Common.{rules}
 use Rattle.cert_text.specs.declared.entry.Entry.TheVariants as entry
 use Rattle.cert_text.proofs.Added.{map_added}
 use Rattle.cert_text.proofs.writing.write_vector.Goals as goal
