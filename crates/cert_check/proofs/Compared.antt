@@ -1,7 +1,7 @@
 -- Sums that are formed side by side are held against the coefficients as they are where each is formed by itself.
 use Rattle.std.proofs.Common.{◌≡◌, ◌∙◌, refl, sym, ap, ap₂, subst, ⊎_elim, ℕ, zero, suc, ◌+◌, ◌<◌, List, [], ◌∷◌, ◌++◌, length, map, drop, get_or, replicate, slice_set, Result, Ok, Err, arith}
 use Rattle.std.proofs.lemmas.Bool.{cases_Bool}
-use Rattle.std.proofs.lemmas.List.{drop_more, length-map}
+use Rattle.std.proofs.lemmas.List.{drop_more, get_or-map, length-map}
 use Rattle.frac128.specs.Fraction.{Fraction, zero_value}
 use Rattle.model_data.specs.Lawful.{IsLawful}
 use Rattle.model_data.specs.declared.model.Model.{Model}
@@ -131,3 +131,18 @@ taken_next i now sums within is =
   where
     next : suc i ≡ i + 1
     next = omega arith
+
+-- ---- at one variable
+
+pub sum_here : (m : Model) (claim : Claimed) (leaf i : ℕ) (v : Var) (now sums : List Sum) → i < length m.vars → v ≡ get_or m.vars i v → length sums ≡ length m.vars
+    → now ≡ replicate i no_sum ++ drop i sums
+    → compared leaf i (drop i sums) (drop i (map (coef_by m claim) m.vars))
+    ≡ after_look (sum_look leaf i (coef_by m claim v)) (sum_at now i) (compared leaf (i + 1) (drop (i + 1) sums) (drop (i + 1) (map (coef_by m claim) m.vars)))
+sum_here m claim leaf i v now sums within is sizes kept =
+    compared_more leaf i sums coefs (coef_by m claim v) (subst (λ n. i < n) (sym sizes) within) (subst (λ n. i < n) (sym (length-map m.vars (coef_by m claim))) within) coef_at
+    ∙ ap (λ (s : Sum). after_look (sum_look leaf i (coef_by m claim v)) s (compared leaf (i + 1) (drop (i + 1) sums) (drop (i + 1) coefs))) (sym (taken-at i now sums kept))
+  where
+    coefs : List Fraction
+    coefs = map (coef_by m claim) m.vars
+    coef_at : coef_by m claim v ≡ get_or coefs i (coef_by m claim v)
+    coef_at = ap (coef_by m claim) is ∙ sym (get_or-map (coef_by m claim) m.vars i v (coef_by m claim v) within)

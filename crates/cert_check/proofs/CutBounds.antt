@@ -1,5 +1,5 @@
 -- One more cut makes the bounds of its variable tighter, and no others.
-use Rattle.std.proofs.Common.{◌≡◌, ◌∙◌, refl, ap, ap₂, ℕ, zero, suc, ◌+◌, ◌<◌, ◌==◌, Bool, if◌then◌else◌, List, [], ◌∷◌, ◌++◌, length, map, slice_index_or, slice_set, arith}
+use Rattle.std.proofs.Common.{◌≡◌, ◌∙◌, refl, sym, ap, ap₂, subst, ℕ, zero, suc, ◌+◌, ◌<◌, ◌==◌, Bool, if◌then◌else◌, List, [], ◌∷◌, ◌++◌, length, map, slice_index_or, slice_set, arith}
 use Rattle.std.proofs.lemmas.Bool.{eq-eqb, ne_eqb}
 use Rattle.model_data.specs.declared.model.Model.{Model}
 use Rattle.model_data.specs.declared.model.Var.{Var}
@@ -51,3 +51,11 @@ one_more_cut m cuts cut d within = one_from 0 m.vars cuts cut cut.var d (omega a
 pub no_cuts : (first : ℕ) (vars : List Var) → bounds_from first vars [] ≡ map own_bounds vars
 no_cuts first [] = refl
 no_cuts first (v ∷ vars) = ap (λ (bs : List Bounds). own_bounds v ∷ bs) (no_cuts (suc first) vars)
+
+-- the bounds of a case with one more cut, as they are written
+pub cut_begins : (m : Model) (cuts : List Cut) (cut : Cut) (bounds : List Bounds) (b : Bounds) → bounds ≡ effective_bounds m cuts → b ≡ cut_bounds cut → cut.var < length bounds
+    → slice_set bounds cut.var (both (slice_index_or bounds cut.var b) b) ≡ effective_bounds m (cuts ++ cut ∷ [])
+cut_begins m cuts cut bounds b are is within =
+    ap (λ (x : Bounds). slice_set bounds cut.var (both (slice_index_or bounds cut.var b) x)) is
+    ∙ ap (λ (bs : List Bounds). slice_set bs cut.var (both (slice_index_or bs cut.var b) (cut_bounds cut))) are
+    ∙ sym (one_more_cut m cuts cut b (subst (λ n. cut.var < n) (ap length are ∙ length-effective_bounds m cuts) within))

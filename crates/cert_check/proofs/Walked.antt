@@ -1,21 +1,25 @@
 -- What a node of a tree leads to.
-use Rattle.std.proofs.Common.{◌≡◌, ◌∙◌, refl, sym, ap, ap₂, subst, ℕ, zero, suc, ◌+◌, ◌-◌, ◌<◌, ◌≤◌, List, [], ◌∷◌, ◌++◌, append_assoc, length, map, replicate, drop, get_or, All, Option, Some, None, Result, Ok, Err, ℤ, arith}
+use Rattle.std.proofs.Common.{◌≡◌, ◌∙◌, refl, sym, ap, ap₂, subst, ℕ, zero, suc, ◌+◌, ◌-◌, ◌<◌, ◌≤◌, List, [], ◌∷◌, ◌++◌, append_assoc, length, map, replicate, drop, get_or, All, true, Option, Some, None, Result, Ok, Err, ℤ, arith}
 use Rattle.std.specs.Result.{IsErr}
 use Rattle.std.proofs.lemmas.List.{drop_more}
 use Rattle.std.proofs.lemmas.List.Elements.{All-cons, All-head, All-nil, All-tail}
 use Rattle.base_names.specs.declared.memory.OrMemory.{OrMemory}
 use Rattle.base_names.specs.declared.memory.OrMemory.TheVariants.{Fault, NoMemory}
-use Rattle.frac128.specs.Fraction.{Fraction}
+use Rattle.frac128.specs.Checked.{checked_sum, ◌>>=◌}
+use Rattle.frac128.specs.Fraction.{Fraction, one_value}
+use Rattle.frac128.specs.declared.operations.Wide.{Wide}
 use Rattle.model_data.specs.declared.model.Model.{Model}
 use Rattle.model_data.specs.declared.solution.CertNode.{CertNode}
 use Rattle.model_data.specs.declared.solution.CertNode.TheVariants.{Bound, Farkas, Split}
 use Rattle.model_data.specs.declared.solution.Weights.{Weights}
 use Rattle.solve_defs.specs.Bounds.{Bounds, at_most_cut, effective_bounds}
 use Rattle.solve_defs.specs.Certificates.{Claim, Subtree, above, bound_claim, cuts_of, entering_looks, farkas_claim, halves, leaf_looks, pred_number, tree_looks, under}
-use Rattle.solve_defs.specs.Looks.{Look, verdict_of}
+use Rattle.solve_defs.specs.Looks.{Look, after_look, plus, verdict_of}
+use Rattle.solve_defs.specs.Values.{whole}
 use Rattle.solve_defs.specs.declared.cut.Cut.{Cut}
 use Rattle.solve_defs.specs.declared.verdict.Verdict.{Verdict}
-use Rattle.solve_defs.specs.declared.verdict.Verdict.TheVariants.{Valid}
+use Rattle.solve_defs.specs.declared.verdict.Place.TheVariants.{Shape}
+use Rattle.solve_defs.specs.declared.verdict.Verdict.TheVariants.{TooWide, Valid}
 use Rattle.cert_check.specs.Open.{Begins, Open, Situation}
 use Rattle.cert_check.specs.Found.{verdict_by}
 use Rattle.cert_check.specs.Leaves.{looks_within}
@@ -85,6 +89,25 @@ not_entered m own later node old mid new (Err (Fault failed)) is_err enters = λ
     ∙ sym (append_stops (entering_looks own) (node_looks m old.value (suc old.leaves) (cuts_of own) later node nodes) (verdict_by {A = Unit {0}} (Err failed)) (not_valid failed) enters)
 not_entered m own later node old mid new (Err NoMemory) is_err enters = tt
 
+-- behind the entering the same is to come
+pub still_to_come : (m : Model) (own : Subtree) (later : List Subtree) (old mid : Walk) → Begun m own old mid → IsToCome m later old → IsToCome m later mid
+still_to_come m own later old mid begun to_come = record {
+  later = ap (λ (w : Walk). w.cases.later) begun.begun ∙ to_come.later;
+  enter = to_come.enter;
+  sums = ap (λ (w : Walk). w.sums) begun.begun ∙ to_come.sums;
+}
+
+enters : (cuts : List Cut) (place : ℕ) (k : ℤ) (r : Result Fraction Wide) → checked_sum (whole k) one_value ≡ r
+    → after_look (record { place = Shape; start = whole k; steps = plus one_value ∷ []; holds = λ _. true }) (r >>= λ next. Ok next) Valid ≡ verdict_of (entering_looks (above cuts place k))
+enters cuts place k r is =
+    ap (λ (found : Result Fraction Wide). after_look (record { place = Shape; start = whole k; steps = plus one_value ∷ []; holds = λ _. true }) (found >>= λ next. Ok next) Valid) (sym is)
+
+pub entering_passes : (cuts : List Cut) (place : ℕ) (k : ℤ) (next : Fraction) → checked_sum (whole k) one_value ≡ Ok next → Valid ≡ verdict_of (entering_looks (above cuts place k))
+entering_passes cuts place k next is = enters cuts place k (Ok next) is
+
+pub entering_refused : (cuts : List Cut) (place : ℕ) (k : ℤ) (wide : Wide) → checked_sum (whole k) one_value ≡ Err wide → TooWide wide ≡ verdict_of (entering_looks (above cuts place k))
+entering_refused cuts place k wide is = enters cuts place k (Err wide) is
+
 -- ---- a split
 
 pub place_of : (number : ℕ) → 1 ≤ number → number - 1 ≡ pred_number number
@@ -102,7 +125,7 @@ split_leads m cuts later number k old new fits to_come waits same = record {
     sums = ap (λ (w : Walk). w.sums) same ∙ to_come.sums;
   };
   value = ap (λ (w : Walk). w.value) same;
-  leaves = few (ap (λ (w : Walk). w.leaves) same);
+  leaves = few new.leaves (ap (λ (w : Walk). w.leaves) same);
   same = λ nodes. ap₂ (λ (v : Fraction) (n : ℕ). verdict_of (tree_looks m v (suc n) (halves cuts (pred_number number) k ++ later) nodes))
       (sym (ap (λ (w : Walk). w.value) same)) (sym (ap (λ (w : Walk). w.leaves) same));
 }
@@ -138,7 +161,7 @@ leaf_leads m cuts later claim weights was old new is to_come passes same = recor
     sums = ap (λ (w : Walk). w.sums) same ∙ to_come.sums;
   };
   value = ap (λ (w : Walk). w.value) same;
-  leaves = few (ap (λ (w : Walk). w.leaves) same);
+  leaves = few new.leaves (ap (λ (w : Walk). w.leaves) same);
   same = λ nodes.
       is nodes ∙ append_on (leaf_looks m cuts (suc old.leaves) claim weights) (tree_looks m old.value (suc (suc old.leaves)) later nodes) passes
       ∙ ap₂ (λ (v : Fraction) (n : ℕ). verdict_of (tree_looks m v (suc n) later nodes)) (sym (ap (λ (w : Walk). w.value) same)) (sym (ap (λ (w : Walk). w.leaves) same));

@@ -78,3 +78,9 @@ abbrev pub Enters : {A : Type 0} → Model → Subtree → Walk → Walk → Res
 Enters m own old new (Ok a) = Begun m own old new
 Enters m own old new (Err (Fault failed)) = verdict_by {A = Unit {0}} (Err failed) ≡ verdict_of (entering_looks own)
 Enters m own old new (Err NoMemory) = Unit {0}
+
+-- the sums, the counts and the number of bounds are as they were
+pub record IsOnWay (old new : Walk) : Type 0 where
+  pub sums : new.sums ≡ old.sums
+  pub leaves : new.leaves ≡ old.leaves
+  pub count : length new.cases.bounds ≡ length old.cases.bounds

@@ -12,7 +12,7 @@ ghost use Rattle.solve_defs.specs.declared.cut.Cut.{Cut};
 ghost use Rattle.cert_check.specs.Found.{Finds, verdict_by};
 ghost use Rattle.cert_check.specs.Leaves.{Fit, claim_by, looks_within};
 ghost use Rattle.cert_check.specs.Sums.{no_sum};
-ghost use Rattle.cert_check.specs.Walks.{CanEnter, Enters, IsToCome, Leads, ahead, at_node, situation_of};
+ghost use Rattle.cert_check.specs.Walks.{CanEnter, Enters, IsOnWay, IsToCome, Leads, ahead, at_node, situation_of};
 
 use crate::bounds::Bounds;
 use crate::cases::{Cases, Entry};
@@ -97,8 +97,9 @@ impl Walk {
     /// The case under way begins. In an upper one 1 is added to the number of the split.
     fn enter(&mut self, entry: Entry) -> Result<(), OrMemory<Failure>>
         requires { CanEnter (length self.old.cases.bounds) entry }
-        ensures { (m : ModelDef) (own : Subtree) → situation_of m own ≡ record { bounds = self.old.cases.bounds; entry = entry }
+        ensures entered { (m : ModelDef) (own : Subtree) → situation_of m own ≡ record { bounds = self.old.cases.bounds; entry = entry }
             → Enters m own self.old self.new result }
+        ensures kept { OnOk result (IsOnWay self.old self.new) }
     {
         match entry {
             Entry::Here => Ok(()),
@@ -109,8 +110,9 @@ impl Walk {
     fn enter_above(&mut self, place: u32, k: i128) -> Result<(), OrMemory<Failure>>
         requires place { place < length self.old.cases.bounds }
         requires small { unsigned_abs k < limit }
-        ensures { (m : ModelDef) (cuts : List Cut) → self.old.cases.bounds ≡ effective_bounds m cuts
+        ensures entered { (m : ModelDef) (cuts : List Cut) → self.old.cases.bounds ≡ effective_bounds m cuts
             → Enters m (above cuts place k) self.old self.new result }
+        ensures kept { OnOk result (IsOnWay self.old self.new) }
     {
         let least = whole(k)
             .checked_add(&Frac::one())
