@@ -18,7 +18,6 @@ module _ (u : Undo) (at : ℕ) (over old new : List ℕ) (le : at ≤ length old
   torn : Torn at (length over) old new
   torn = torn_by_write at over old new le written
 
-
   covered : length u.was.items ≡ min (length over) (length old - at)
   covered = ap length is_was ∙ (length-take (length over) (drop at old) ∙ ap (min (length over)) (length-drop at old))
 

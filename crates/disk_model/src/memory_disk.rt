@@ -9,8 +9,8 @@ ghost use Rattle.disk_model.specs.Calls.{LenCall, ReadCall, WriteCall, SyncCall}
 ghost use Rattle.disk_model.specs.Made.{call_of};
 
 use crate::answer::{DiskDone, DiskLen};
-use crate::arms::Arms;
 use crate::arming::{Begun, Stop, fails_in, stop_due};
+use crate::arms::Arms;
 use crate::call_log::{CallLog, Made};
 use crate::disk::Disk;
 use crate::image::{Arm, Armed, Image, Restarted};

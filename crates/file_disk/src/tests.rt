@@ -2,10 +2,9 @@
 
 use crate::FileDisk;
 use disk_model::{Disk, DiskDone, DiskLen};
-use std::env;
-use std::fs;
 use std::hash::{BuildHasher, RandomState};
 use std::test::Fail;
+use std::{env, fs};
 
 #[test]
 fn a_file_is_there_at_the_next_opening(rt: HostRuntime) -> Result<(), Fail> {

@@ -17,9 +17,9 @@ returns-clause-durable c done =
 pub returns-clause-images : goal.returns-clause-images
 returns-clause-images c =
     by c.sync_now.result (change_stored c.args.self.now c.sync_now.new.self (SyncCall c.sync_now.result) (synced_after c.sync_now.result) c.sync_now.ensures.made.1) where
-  by : (answer : DiskDone) → c.sync_now.new.self.stored ≡ synced_after answer c.args.self.now.stored → Follows Same (left_of c.args.self.now (moment_of c.args.self.now)) (left_of c.sync_now.new.self (moment_of c.sync_now.new.self))
-  by Done stored = syncs c.args.self.now c.sync_now.new.self stored
-  by Failed stored = stays c.args.self.now c.sync_now.new.self stored
+      by : (answer : DiskDone) → c.sync_now.new.self.stored ≡ synced_after answer c.args.self.now.stored → Follows Same (left_of c.args.self.now (moment_of c.args.self.now)) (left_of c.sync_now.new.self (moment_of c.sync_now.new.self))
+      by Done stored = syncs c.args.self.now c.sync_now.new.self stored
+      by Failed stored = stays c.args.self.now c.sync_now.new.self stored
 
 pub returns-clause-called : goal.returns-clause-called
 returns-clause-called c = called c.args.self.now c.sync_now.new.self (SyncCall c.sync_now.result) c.sync_now.ensures.made c.sync_now.ensures.later
