@@ -12,7 +12,11 @@ use std::alloc::Global;
 fn first_record<'a>(bytes: &'a [u8]) -> Option<(&'a [u8], &'a [u8])>
     ensures { MatchOption result (bodies_from AtGate bytes.now ≡ []) (λ p. (bytes.now ≡ 1 ∷ (record_of p.0.now ++ p.1.now)) × (0 < length p.1.now) × (length p.0.now < 256 ^ 4)) }
 {
-    if bytes.len() < 6 || bytes[0] != 1 {
+    if bytes.len() < 6 {
+        return None;
+    }
+    let gate = bytes[0];
+    if gate != 1 {
         return None;
     }
     let length = u32::from_be_bytes([bytes[1], bytes[2], bytes[3], bytes[4]]) as usize;

@@ -35,6 +35,7 @@ pub fn added<D: Disk>(
     requires stands { Stands D.moment D.left journal.old }
     requires short { length body.now < 2 ^ 32 }
     ensures stands { Stands D.moment D.left journal.new }
+    ensures rest { (journal.new.limit ≡ journal.old.limit) × (D.name journal.new.disk ≡ D.name journal.old.disk) }
 {
     journal.reserve(alloc, body.len() as u32)?;
     Ok(journal.append(body))
