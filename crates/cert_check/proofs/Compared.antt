@@ -144,5 +144,6 @@ sum_here m claim leaf i v now sums within is sizes kept =
   where
     coefs : List Fraction
     coefs = map (coef_by m claim) m.vars
+
     coef_at : coef_by m claim v ≡ get_or coefs i (coef_by m claim v)
     coef_at = ap (coef_by m claim) is ∙ sym (get_or-map (coef_by m claim) m.vars i v (coef_by m claim v) within)

@@ -1,17 +1,24 @@
 -- What the shape of a node says of its numbers.
-use Rattle.std.proofs.Common.{◌≡◌, refl, ℕ, zero, suc, ◌-◌, ◌<◌, ◌≤◌, true, IsTrue, ◌&&◌, List, [], ◌∷◌, length, All, ℤ, arith}
-use Rattle.std.specs.Prelude.{nat_le, nat_lt, unsigned_abs}
+use Rattle.std.proofs.Common.{◌≡◌, refl, ℕ, zero, suc, ◌-◌, ◌<◌, ◌≤◌, ◌==◌, IsTrue, ◌&&◌, List, [], ◌∷◌, length, All, ℤ, arith}
+use Rattle.std.specs.Prelude.{is_none, nat_le, nat_lt, unsigned_abs}
 use Rattle.std.specs.List.{list_all}
-use Rattle.std.proofs.lemmas.Bool.{and_parts, leb-true, ltb-true}
+use Rattle.std.proofs.lemmas.Bool.{and_parts, eqb-true, leb-true, ltb-true}
 use Rattle.std.proofs.lemmas.List.Elements.{All-cons, All-nil}
+use Rattle.frac128.specs.Fraction.{Fraction}
 use Rattle.frac128.specs.Numbers.{limit}
 use Rattle.model_data.specs.declared.model.Model.{Model}
 use Rattle.model_data.specs.declared.model.Var.{Var}
+use Rattle.model_data.specs.declared.solution.Cert.TheVariants.{Ray, Tree}
+use Rattle.model_data.specs.declared.solution.CertNode.{CertNode}
 use Rattle.model_data.specs.declared.solution.CertNode.TheVariants.{Split}
+use Rattle.model_data.specs.declared.solution.Outcome.{Outcome}
 use Rattle.model_data.specs.declared.solution.Weight.{Weight}
 use Rattle.model_data.specs.declared.solution.Weights.{Weights}
-use Rattle.solve_defs.specs.Certificates.{are_weights_for, is_integer_number, is_node_for, is_number_to}
+use Rattle.solve_defs.specs.Certificates.{are_weights_for, are_whole, is_certificate_for, is_integer_number, is_node_for, is_number_to}
+use Rattle.solve_defs.specs.Kinds.{are_continuous}
+use Rattle.solve_defs.specs.declared.status.TheConstants.{UNBOUNDED}
 use Rattle.cert_check.specs.Leaves.{Fit}
+use Rattle.cert_check.specs.Shapes.{goes_with_tree}
 use Rattle.cert_check.specs.Sums.{AreNumbered, HasNumber}
 
 numbered : (count : ℕ) (ws : List Weight) → IsTrue (list_all (λ w. is_number_to count w.place) ws) → AreNumbered count ws
@@ -54,3 +61,21 @@ split_fits m number k h =
     let parts = and_parts (is_integer_number m.vars number) (nat_lt (unsigned_abs k) limit) h in
     let own = number_is m.vars number parts.0 in
     record { above_zero = own.above_zero; within = own.within; small = ltb-true (unsigned_abs k) limit parts.1 }
+
+-- ---- a certificate
+
+pub record RayFits (m : Model) (point ray : List Fraction) : Type 0 where
+  pub point_is : length point ≡ length m.vars
+  pub ray_is : length ray ≡ length m.vars
+
+pub ray_fits : (m : Model) (o : Outcome) (point ray : List Fraction) → IsTrue (is_certificate_for m o (Ray point ray)) → RayFits m point ray
+ray_fits m o point ray h =
+    let without = o.status == UNBOUNDED && is_none o.point && are_continuous m.vars in
+    let parts = and_parts (without && (length point == length m.vars)) (length ray == length m.vars) h in
+    let two = and_parts without (length point == length m.vars) parts.0 in
+    record { point_is = eqb-true (length point) (length m.vars) two.1; ray_is = eqb-true (length ray) (length m.vars) parts.1 }
+
+pub nodes_fit : (m : Model) (o : Outcome) (nodes : List CertNode) → IsTrue (is_certificate_for m o (Tree nodes)) → IsTrue (list_all (is_node_for m) nodes)
+nodes_fit m o nodes h =
+    let parts = and_parts (are_whole 1 nodes && list_all (is_node_for m) nodes) (goes_with_tree o nodes) h in
+    (and_parts (are_whole 1 nodes) (list_all (is_node_for m) nodes) parts.0).1

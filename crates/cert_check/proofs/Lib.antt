@@ -1,3 +1,4 @@
+pub mod Answering
 pub mod Compared
 pub mod CutBounds
 pub mod FirstFailure

@@ -21,7 +21,7 @@ use Rattle.solve_defs.specs.declared.verdict.Verdict.{Verdict}
 use Rattle.solve_defs.specs.declared.verdict.Place.TheVariants.{Shape}
 use Rattle.solve_defs.specs.declared.verdict.Verdict.TheVariants.{TooWide, Valid}
 use Rattle.cert_check.specs.Open.{Begins, Open, Situation}
-use Rattle.cert_check.specs.Found.{verdict_by}
+use Rattle.cert_check.specs.Found.{Finds, verdict_by}
 use Rattle.cert_check.specs.Leaves.{looks_within}
 use Rattle.cert_check.specs.Sums.{no_sum}
 use Rattle.cert_check.specs.Walks.{Begun, CanEnter, Enters, GoesOn, IsToCome, Leads, ahead, at_node, node_looks, situation_of}
@@ -226,6 +226,19 @@ pub length_here : (m : Model) (own : Subtree) (bounds : List Bounds) (entry : En
 length_here m (under cuts) bounds entry is = sym (ap (λ (s : Situation). length s.bounds) is) ∙ length-effective_bounds m cuts
 length_here m (above cuts place k) bounds entry is = sym (ap (λ (s : Situation). length s.bounds) is) ∙ length-effective_bounds m cuts
 
+-- what doesn't count the bounds under way doesn't depend on them
+pub from_same : (m : Model) (was : List CertNode → Verdict) (mid old new : Walk) (found : Result Unit (OrMemory Failure)) → mid.value ≡ old.value → mid.leaves ≡ old.leaves
+    → Leads m was mid new found → Leads m was old new found
+from_same m was mid old new (Ok a) value leaves goes = record {
+  later = goes.later;
+  to_come = goes.to_come;
+  value = goes.value ∙ value;
+  leaves = subst (λ n. new.leaves ≤ suc n) leaves goes.leaves;
+  same = goes.same;
+}
+from_same m was mid old new (Err (Fault failed)) value leaves ends = ends
+from_same m was mid old new (Err NoMemory) value leaves ends = tt
+
 -- ---- all nodes
 
 -- So many nodes are done, and what is found is left to the others.
@@ -279,3 +292,10 @@ ends_underway m value nodes done node old failed here within is ends =
 pub over_underway : (m : Model) (value : Fraction) (nodes : List CertNode) (done : ℕ) (walk : Walk) → Underway m value nodes done walk → drop done nodes ≡ []
     → verdict_of (tree_looks m value 1 (under [] ∷ []) nodes) ≡ Valid
 over_underway m value nodes done walk here over = sym here.same ∙ ap (ahead m walk here.subtrees) over ∙ no_node_left m walk here.subtrees
+
+pub found_underway : (m : Model) (value : Fraction) (nodes : List CertNode) (done : ℕ) (node : CertNode) (old new : Walk) (found : Result Unit (OrMemory Failure)) (here : Underway m value nodes done old) → IsErr found
+    → done < length nodes → node ≡ get_or nodes done node → Leads m (λ rest. ahead m old here.subtrees (node ∷ rest)) old new found
+    → Finds found (verdict_of (tree_looks m value 1 (under [] ∷ []) nodes))
+found_underway m value nodes done node old new (Ok a) here is_err within is leads = absurd cc
+found_underway m value nodes done node old new (Err (Fault failed)) here is_err within is leads = ends_underway m value nodes done node old failed here within is leads
+found_underway m value nodes done node old new (Err NoMemory) here is_err within is leads = tt

@@ -1,4 +1,5 @@
-use Rattle.std.proofs.Common.{rules, ◌≡◌, ◌∙◌, ap, ap₂, List, [], ◌∷◌, ◌++◌, reverse, slice_index_or, slice_set}
+use Rattle.std.proofs.Common.{rules, ◌≡◌, ◌∙◌, ap, ap₂, List, [], ◌∷◌, ◌++◌, ◌<◌, length, reverse, slice_index_or, slice_set}
+use Rattle.std.proofs.lemmas.List.{get_or_default}
 use Rattle.solve_defs.specs.Bounds.{Bounds, both}
 use Rattle.cert_check.specs.Open.{Open, Situation}
 use Rattle.cert_check.specs.Stack.{waiting}
@@ -15,7 +16,9 @@ returns c =
     let own = c.index.result.now in
     let bounds : i.bounds.items ≡ c.args.self.now.bounds = ap (λ (o : Open). o.bounds) c.self.view_is in
     let later : waiting i.bounds.items (reverse i.kept.items) ≡ c.args.self.now.later = ap (λ (o : Open). o.later) c.self.view_is in
-    let own_is : own ≡ slice_index_or i.bounds.items place b = search rules in
+    let within : place < length i.bounds.items = search rules in
+    let read : own ≡ slice_index_or i.bounds.items place own = search rules in
+    let own_is : own ≡ slice_index_or i.bounds.items place b = read ∙ get_or_default i.bounds.items place own b within in
     let pushed : c.push.new.self.items ≡ i.kept.items ++ Before place own ∷ [] = search rules in
     let tighter : c.both.result ≡ both (slice_index_or i.bounds.items place b) b = c.both.ensures ∙ ap (λ (x : Bounds). both x b) own_is in
     let make : List Bounds → List Situation → Open = λ bs ss. record { bounds = bs; later = ss } in
