@@ -1,11 +1,10 @@
 -- A finished node, as the fields of a search have it.
 use Rattle.std.proofs.Common.{◌≡◌, ◌∙◌, refl, sym, ap, ap₂, ℕ, suc, Option, Some, None, List, [], ◌∷◌, ◌++◌}
-use Rattle.dictionary.specs.Dictionary.{Dictionary}
 use Rattle.model_data.specs.declared.model.Model.{Model}
 use Rattle.model_data.specs.declared.params.Params.{Params}
 use Rattle.model_data.specs.declared.solution.CertNode.{CertNode}
 use Rattle.model_data.specs.declared.solution.Point.{Point}
-use Rattle.solve_defs.specs.Plain.{Node, Progress, Search, Turn, finish, finished, next_node, no_events, node_event, with_finished}
+use Rattle.solve_defs.specs.Plain.{Node, Progress, Search, finish, finished, next_node, no_events, node_event, with_finished}
 use Rattle.solve_defs.specs.declared.cut.Cut.{Cut}
 use Rattle.solve_defs.specs.declared.solving.Events.{Events}
 use Rattle.branch_tree.specs.Counted.{IsCounted, stopped_by}

@@ -1,3 +1,4 @@
+mod Bounded
 mod Finished
 mod Relaxing
 mod Repeated

@@ -1,8 +1,8 @@
 -- The columns of a relaxation, from its opening on.
-use Rattle.std.proofs.Common.{◌≡◌, ◌∙◌, refl, sym, ap, ℕ, suc, List, length, map}
+use Rattle.std.proofs.Common.{◌≡◌, ◌∙◌, refl, sym, ap, ℕ, suc, List, length}
 use Rattle.std.proofs.lemmas.List.{length-map}
 use Rattle.frac128.specs.Fraction.{Fraction}
-use Rattle.dictionary.specs.Dictionary.{Dictionary, IsUniform, numbers_from, opening}
+use Rattle.dictionary.specs.Dictionary.{Dictionary, IsUniform, opening}
 use Rattle.dictionary.specs.Solutions.{HasReducedNumbers}
 use Rattle.dictionary.specs.declared.standard.Std.{Std}
 use Rattle.dictionary.proofs.Opened.{length-numbers_from}

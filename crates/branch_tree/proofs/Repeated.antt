@@ -1,9 +1,10 @@
 -- Any number of turns of a solve are the plain solver's.
-use Rattle.std.proofs.Common.{◌≡◌, ◌∙◌, refl, sym, ap, subst, ℕ, zero, suc, List, [], ◌∷◌, ◌++◌, length}
+use Rattle.std.proofs.Common.{◌≡◌, ◌∙◌, refl, sym, ap, subst, suc, List, [], ◌∷◌, ◌++◌, length}
 use Rattle.model_data.specs.declared.model.Model.{Model}
 use Rattle.model_data.specs.declared.params.Params.{Params}
-use Rattle.solve_defs.specs.Plain.{Progress, Run, Search, behind, cut_off, going, over, plain_cut, run, start, turn}
+use Rattle.solve_defs.specs.Plain.{Run, behind, cut_off, going, plain_cut, run, start, turn}
 use Rattle.solve_defs.specs.declared.solving.Events.{Events}
+use Rattle.search_laws.proofs.Runs.{run-going, run-none}
 use Rattle.branch_tree.specs.ManyTurns.{Advances, Turned}
 use Rattle.branch_tree.specs.Solves.{Solve}
 
@@ -12,19 +13,10 @@ pub turn_more : (first before after : Solve) (events : List Events) (own : Event
 turn_more first before after [] own turned h = let is : before ≡ first = turned in (after, subst (λ (b : Solve). Advances own b after) is h, refl)
 turn_more first before after (e ∷ events) own turned h = (turned.0, turned.1, turn_more turned.0 before after events own turned.2 h)
 
-run_none : (m : Model) (p : Params) (at : Progress) → run m p zero at ≡ record { turns = []; progress = at }
-unfolding run
-run_none m p (over o cert) = refl
-run_none m p (going s) = refl
-
-run_one : (m : Model) (p : Params) (k : ℕ) (s : Search) → run m p (suc k) (going s) ≡ behind (turn m p s).events (run m p k (turn m p s).progress)
-unfolding run
-run_one m p k s = refl
-
 -- the same from any solve
 runs : (first last : Solve) (events : List Events) → Turned first events last
     → run first.model first.params (length events) first.progress ≡ record { turns = events; progress = last.progress }
-runs first last [] turned = run_none first.model first.params first.progress ∙ ap (λ (x : Solve). record { turns = []; progress = x.progress }) (sym turned)
+runs first last [] turned = run-none first.model first.params first.progress ∙ ap (λ (x : Solve). record { turns = []; progress = x.progress }) (sym turned)
 runs first last (own ∷ events) turned =
     let next = turned.0 in
     let h = turned.1.tells in
@@ -37,7 +29,7 @@ runs first last (own ∷ events) turned =
     ∙ ap (λ (p : Params). run next.model p k next.progress) (sym h.params)
     ∙ runs next last events turned.2 in
     ap (run first.model first.params (suc k)) turned.1.goes_on
-    ∙ run_one first.model first.params k s
+    ∙ run-going first.model first.params k s
     ∙ ap (behind t.events) behind_it
     ∙ ap (λ e. record { turns = e ∷ events; progress = last.progress }) (sym h.events ∙ turned.1.events_are)
 

@@ -1,16 +1,12 @@
 -- A turn of the plain solver by the node at which it is made.
-use Rattle.std.proofs.Common.{◌≡◌, ◌∙◌, refl, sym, ap, ap₂, ℕ, suc, Option, Some, None, Result, Ok, Err, List, [], ◌∷◌, is_some, false}
+use Rattle.std.proofs.Common.{◌≡◌, ◌∙◌, refl, sym, ap, Option, Some, None, Ok, Err, [], ◌∷◌, is_some, false}
 use Rattle.dictionary.specs.Dictionary.{Dictionary}
 use Rattle.model_data.specs.declared.model.Model.{Model}
 use Rattle.model_data.specs.declared.params.Params.{Params}
-use Rattle.model_data.specs.declared.solution.CertNode.{CertNode}
-use Rattle.model_data.specs.declared.solution.Point.{Point}
-use Rattle.solve_defs.specs.Path.{Entering, a_pivot, coming}
-use Rattle.solve_defs.specs.Plain.{Node, Progress, Search, Turn, begun, going, node_turn, pivot_turn, rooted, silent, turn, turn_at, turn_on}
-use Rattle.solve_defs.specs.declared.cut.Cut.{Cut}
-use Rattle.branch_tree.specs.Counted.{IsCounted, behind_pivot, stopped_by, told}
+use Rattle.solve_defs.specs.Path.{coming}
+use Rattle.solve_defs.specs.Plain.{Node, Search, Turn, begun, going, node_turn, rooted, silent, turn, turn_at, turn_on}
+use Rattle.branch_tree.specs.Counted.{stopped_by}
 use Rattle.branch_tree.specs.Stage.{Makes, Stage, begun_as, progress_of}
-use Rattle.branch_tree.specs.declared.counts.Counts.{Counts}
 use Rattle.branch_tree.specs.declared.counts.Stop.{Stop}
 use Rattle.branch_tree.specs.declared.done.Done.{Done}
 use Rattle.branch_tree.specs.declared.step.Step.{Step}

@@ -1,8 +1,7 @@
 -- What the plain solver does where a node's relaxation has come to its end, by what is found there.
-use Rattle.std.specs.Prelude.{◌≡◌, ℕ, suc, List, [], ◌∷◌, ◌++◌, length, Option, Some, None, Result, Ok, Err, ℤ}
+use Rattle.std.specs.Prelude.{ℕ, suc, List, [], ◌∷◌, ◌++◌, Option, Some, None, Result, Ok, Err}
 use Rattle.base_names.specs.declared.memory.OrMemory.{OrMemory}
 use Rattle.base_names.specs.declared.memory.OrMemory.TheVariants.{Fault}
-use Rattle.frac128.specs.Fraction.{Fraction}
 use Rattle.frac128.specs.declared.operations.Wide.{Wide as Refused}
 use Rattle.model_data.specs.declared.model.Model.{Model}
 use Rattle.model_data.specs.declared.params.Params.{Params}
@@ -11,7 +10,7 @@ use Rattle.model_data.specs.declared.solution.CertNode.TheVariants.{Split as Spl
 use Rattle.model_data.specs.declared.solution.Point.{Point}
 use Rattle.model_data.specs.declared.solution.SolEvent.{SolEvent}
 use Rattle.solve_defs.specs.Bounds.{at_least_cut, at_most_cut}
-use Rattle.solve_defs.specs.Plain.{Node, Placed, Search, Turn, finish, no_events, node_event, outcome, over, refused, silent, sol_event, with_finished, with_node}
+use Rattle.solve_defs.specs.Plain.{Placed, Search, Turn, finish, no_events, node_event, outcome, over, refused, silent, sol_event, with_finished, with_node}
 use Rattle.solve_defs.specs.declared.cut.Cut.{Cut}
 use Rattle.solve_defs.specs.declared.status.TheConstants.{INF_OR_UNBD, UNBOUNDED}
 use Rattle.std_form.specs.Cuts.{IsCutOf}

@@ -1,7 +1,8 @@
+pub mod Bounded
 pub mod Counted
 pub mod Findings
-pub mod Next
 pub mod ManyTurns
+pub mod Next
 pub mod Solver
 pub mod Solves
 pub mod Stack

@@ -1,5 +1,5 @@
 -- What comes behind a finished node, as the plain solver has it.
-use Rattle.std.specs.Prelude.{◌≡◌, ◌<◌, List, [], ◌∷◌, drop, Option, Some, None}
+use Rattle.std.specs.Prelude.{◌≡◌, ◌<◌, ◌∷◌, drop, Option, Some, None}
 use Rattle.model_data.specs.declared.model.Model.{Model}
 use Rattle.model_data.specs.declared.solution.Point.{Point}
 use Rattle.model_data.specs.declared.solution.SolEvent.{SolEvent}
@@ -7,7 +7,6 @@ use Rattle.simplex_rule.specs.OnPath.{IsOnPath}
 use Rattle.solve_defs.specs.Ends.{structural_count}
 use Rattle.solve_defs.specs.Plain as defs
 use Rattle.solve_defs.specs.StandardForm.{column_count, shapes_of}
-use Rattle.solve_defs.specs.declared.cut.Cut.{Cut}
 use Rattle.branch_tree.specs.Counted.{stopped_by}
 use Rattle.branch_tree.specs.Stage.{Stage}
 use Rattle.branch_tree.specs.declared.counts.Counts.{Counts}

@@ -1,5 +1,5 @@
 -- The nodes that wait, on a stack.
-use Rattle.std.specs.Prelude.{ℕ, ◌≤◌, List, [], ◌∷◌, ◌++◌, length, map, option_to_list, reverse, take}
+use Rattle.std.specs.Prelude.{ℕ, ◌≤◌, List, [], ◌∷◌, ◌++◌, length, map, reverse, take}
 use Rattle.solve_defs.specs.declared.cut.Cut.{Cut}
 use Rattle.branch_tree.specs.Waits.{Open}
 use Rattle.branch_tree.specs.declared.cases.Cases.TheInside.{Inside}

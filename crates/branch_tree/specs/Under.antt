@@ -1,5 +1,5 @@
 -- What the fields of a search mean, and what is kept of them.
-use Rattle.std.specs.Prelude.{◌≡◌, ◌<◌, ℕ, All, List, [], ◌∷◌, length, Option, Some, None, option_map}
+use Rattle.std.specs.Prelude.{◌≡◌, ◌<◌, ℕ, All, List, [], ◌∷◌, length, Option, Some, None}
 use Rattle.std.specs.Option.{ForSome}
 use Rattle.dictionary.specs.Dictionary.{Dictionary}
 use Rattle.model_data.specs.declared.model.Model.{Model}

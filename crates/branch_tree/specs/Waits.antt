@@ -1,5 +1,5 @@
 -- Which cuts hold where, as the plain solver has it.
-use Rattle.std.specs.Prelude.{◌≡◌, List, [], ◌∷◌, Option, Some, None}
+use Rattle.std.specs.Prelude.{List, [], ◌∷◌, Option, Some, None}
 use Rattle.solve_defs.specs.declared.cut.Cut.{Cut}
 
 -- the cuts of the node under way, and of each one that is to begin, the next one first

@@ -5,6 +5,9 @@
 //! is (`specs/Plain.antt` there): each call is one clause, `advance` is `turn`, and `cut` is `cut_off`. So after any number
 //! of turns the events, the outcome and the certificate are the plain solver's, as [`turns_are_the_plain_solvers`] says.
 //!
+//! A solve stays within the bounds of its model (`specs/Bounded.antt`): limits on nodes and pivots that are at least those of
+//! `limit_defs` never end it.
+//!
 //! A turn takes memory only where a node is finished or the root begins, and all of it before it changes anything: after want of memory the
 //! solve is as before. Of the nodes that wait a depth and a cut are kept, so that memory is linear in the depth of the tree,
 //! and no call goes down it, dropping neither.

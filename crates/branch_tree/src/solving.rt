@@ -2,6 +2,8 @@
 ghost use Rattle.std.specs.Prelude.{◌≡◌, IfOk, OnErr, false};
 ghost use Rattle.model_data.specs.Lawful.{IsLawful};
 ghost use Rattle.solve_defs.specs.Plain.{Search as SearchDef, cut_off, going, start, turn};
+ghost use Rattle.node_laws.specs.Bounds.{KeepsBounds};
+ghost use Rattle.branch_tree.specs.Bounded.{IsBounded};
 ghost use Rattle.branch_tree.specs.Solves.{IsEnded, Tells};
 
 use crate::done::Done;
@@ -39,7 +41,8 @@ impl Solving {
     /// Before the first turn. Each turn is one pivot, or finishes one node.
     pub fn start(alloc: Global, m: LinearModel, p: Params) -> Result<Solving, NoMemory>
         requires { IsLawful m }
-        ensures { IfOk result (λ solving. (solving.model ≡ m) × (solving.params ≡ p) × (solving.progress ≡ going start)) }
+        ensures start { IfOk result (λ solving. (solving.model ≡ m) × (solving.params ≡ p) × (solving.progress ≡ going start)) }
+        ensures bounds { IfOk result IsBounded }
     {
         Ok(Solving {
             search: Search::start(alloc, SoundModel::of(m), p),
@@ -58,8 +61,24 @@ impl Solving {
     ///
     /// It takes memory only where a node is finished, and all of it before it changes anything: after want of memory the solve
     /// is as before.
-    #[tactic(auto, using(crate::proofs::Turned::goes_on))]
+    ///
+    /// A solve that has come from its start stays within the bounds of its model: no limit ends it that is at least the one of
+    /// `specs/Limits.antt` of `limit_defs`.
     pub fn advance(&mut self, alloc: Global) -> Result<Turn, NoMemory>
+        requires { (s : SearchDef) × (self.old.progress ≡ going s) }
+        ensures turn { IfOk result (λ told. (s : SearchDef) → self.old.progress ≡ going s
+            → Tells (turn self.old.model self.old.params s) told self.old self.new) }
+        ensures goes_on { IfOk result (λ told. told.ended ≡ false → (s : SearchDef) × (self.new.progress ≡ going s)) }
+        ensures bounds { IfOk result (λ told. IsBounded self.old → IsBounded self.new) }
+        ensures same { OnErr result (self.new ≡ self.old) }
+    {
+        self.model();
+        self.turn(alloc)
+    }
+
+    /// The turn by itself.
+    #[tactic(auto, using(crate::proofs::Turned::goes_on))]
+    fn turn(&mut self, alloc: Global) -> Result<Turn, NoMemory>
         requires { (s : SearchDef) × (self.old.progress ≡ going s) }
         ensures turn { IfOk result (λ told. (s : SearchDef) → self.old.progress ≡ going s
             → Tells (turn self.old.model self.old.params s) told self.old self.new) }
@@ -77,7 +96,8 @@ impl Solving {
 
     /// How it ended; where no turn has ended it, it comes back.
     pub fn into_done(self) -> Result<Done, Solving>
-        ensures { IsEnded self result }
+        ensures end { IsEnded self result }
+        ensures bounds { IfOk result (λ done. IsBounded self → KeepsBounds self.model self.params done.outcome) }
     {
         let Some(_) = &self.done else {
             return Err(self);

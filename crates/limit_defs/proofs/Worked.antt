@@ -7,7 +7,7 @@ use Rattle.model_data.specs.declared.model.Model.{Model}
 use Rattle.model_data.specs.declared.model.VarKind.TheVariants.{Binary, Continuous, Integer}
 use Rattle.solve_defs.proofs.Models.{half_binary, minus, model, number, part, two_by_two, two_by_two_whole, variable}
 use Rattle.limit_defs.specs.Counts.{choose, pivots_within}
-use Rattle.limit_defs.specs.Limits.{nodes_of, pivots_of}
+use Rattle.limit_defs.specs.Limits.{nodes_of}
 use Rattle.limit_defs.specs.Text.{limits_text}
 
 -- ---- ways to choose

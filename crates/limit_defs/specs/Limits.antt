@@ -1,8 +1,6 @@
 -- How many nodes and pivots a solve of a model has at most.
 use Rattle.std.specs.Prelude.{◌≡◌, ℕ, ◌+◌, ◌-◌, ◌*◌, ◌≤◌, Bool, false, not, ◌&&◌, [], is_some, sum_by}
 use Rattle.std.specs.List.{list_any}
-use Rattle.model_data.specs.Kept.{HasKeptNumbers}
-use Rattle.model_data.specs.Lawful.{IsLawful}
 use Rattle.model_data.specs.Size.{is_integer, rows_of_sense}
 use Rattle.model_data.specs.declared.model.Model.{Model}
 use Rattle.model_data.specs.declared.model.Var.{Var}
@@ -49,12 +47,6 @@ abbrev pub iterations_of : Model → ℕ
 iterations_of m = pivots_of m * nodes_of m
 
 -- ---- enough
-
--- A lawful model, with numbers as they are kept, whose tree ends.
-pub record IsBoundedModel (m : Model) : Type 0 where
-  pub lawful : IsLawful m
-  pub kept : HasKeptNumbers m
-  pub closed : has_open m ≡ false
 
 -- The limit on nodes allows all that there may be.
 pub record HasEnoughNodes (m : Model) (p : Params) : Type 0 where

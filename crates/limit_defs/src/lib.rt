@@ -8,4 +8,4 @@
 
 mod laws;
 
-pub use laws::a_model_is_closed_where_no_variable_is_open;
+pub use laws::{a_model_is_closed_where_no_variable_is_open, limits_that_are_told_are_enough};

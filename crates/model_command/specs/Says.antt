@@ -1,6 +1,6 @@
 -- What a command over the text of a model answers, and what it did to its source and its sink, by its end. Which texts answer for
 -- a model is told by a relation.
-use Rattle.std.specs.Prelude.{ℕ, ◌≡◌, ◌≤◌, ◌<◌, ◌⊎◌, List, [], ◌++◌, length, Option, Result, Ok, Err}
+use Rattle.std.specs.Prelude.{ℕ, ◌≡◌, ◌≤◌, ◌<◌, ◌⊎◌, List, length, Option}
 use Rattle.base_names.specs.Outside.{IsAtEnd, Writes}
 use Rattle.base_names.specs.Prefix.{IsPrefix}
 use Rattle.base_names.specs.declared.refusal.FaultWord.TheVariants.{Size}

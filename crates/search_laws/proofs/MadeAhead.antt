@@ -41,7 +41,7 @@ begun_opens m p s (cuts ∷ later) =
     cond_both {A = Progress} (nat_le p.nodes s.nodes) (stopped NODE_LIMIT s) (begun_with s cuts later (standard_form m cuts)) (AtBeginning m) (λ _. tt) (λ _. begins_opens m s cuts later (standard_form m cuts) refl)
 
 left_opens : (m : Model) (p : Params) (s : Search) (node : Node) (left : Left) → AtBeginning m (left_turn m p s node left).progress
-left_opens m p s node (at_end e) = end_meets m p (AtBeginning m) s node e record { ends = λ o cert other. tt; begins = λ t waiting a b. begun_opens m p t waiting }
+left_opens m p s node (at_end e) = end_meets m p (AtBeginning m) s node e record { ends = λ o cert other. tt; begins = λ t waiting a b on. begun_opens m p t waiting }
 left_opens m p s node out_of_pivots = tt
 left_opens m p s node out_of_work = tt
 left_opens m p s node (too_wide wide) = tt

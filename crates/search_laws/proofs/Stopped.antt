@@ -118,7 +118,7 @@ node_leads m p s h (a_pivot entering) comes = pivot_leads m p s h entering comes
 node_leads m p s h (an_end e) comes =
     end_meets m p (Leads m p) s h.node e record {
       ends = λ o cert ends. node_end m p o ends;
-      begins = λ t waiting pivots nodes. begun_leads m p t waiting (subst (λ n. n ≤ p.iterations) (sym pivots) h.pivots) (subst (λ n. n ≤ p.nodes) (sym nodes) (let less = h.nodes in omega (arith, less)));
+      begins = λ t waiting pivots nodes on. begun_leads m p t waiting (subst (λ n. n ≤ p.iterations) (sym pivots) h.pivots) (subst (λ n. n ≤ p.nodes) (sym nodes) (let less = h.nodes in omega (arith, less)));
     }
 
 on_leads : (m : Model) (p : Params) (at : Progress) → Leads m p at → Leads m p (turn_on m p at).progress

@@ -10,6 +10,7 @@ use Rattle.model_data.specs.declared.solution.Outcome.{Outcome}
 use Rattle.dictionary.specs.Dictionary.{Dictionary, opening}
 use Rattle.dictionary.specs.declared.standard.Std.{Std}
 use Rattle.solve_defs.specs.Bounds.{Bounds, at_least_cut, at_most_cut, own_bounds, with_cuts}
+use Rattle.solve_defs.specs.Certificates.{is_integer_number}
 use Rattle.solve_defs.specs.Ends.{point_of}
 use Rattle.solve_defs.specs.Path.{Entering, Path, a_pivot, an_end, coming}
 use Rattle.solve_defs.specs.Plain.{Placed, first_fractional}
@@ -71,7 +72,11 @@ IsClosed m = All (λ v. is_integer v.kind ≡ true → IsTrue (is_some (own_boun
 
 -- ---- pivots
 
--- In each relaxation fewer pivots than these are made where one more comes.
+-- Each cut is of an integer variable, as those of splits are.
+abbrev pub AreOnIntegers : Model → List Cut → Type 0
+AreOnIntegers m cuts = All (λ cut. IsTrue (is_integer_number m.vars (suc cut.var))) cuts
+
+-- In each relaxation that splits may come to, fewer pivots than these are made where one more comes.
 abbrev pub IsBrief : Model → ℕ → Type 0
-IsBrief m pivots = (cuts : List Cut) (form : Std) (n : ℕ) (d : Dictionary) (entering : Entering) → standard_form m cuts ≡ Ok form → Path (opening form) n d
-    → coming d ≡ a_pivot entering → n < pivots
+IsBrief m pivots = (cuts : List Cut) (form : Std) (n : ℕ) (d : Dictionary) (entering : Entering) → AreOnIntegers m cuts → standard_form m cuts ≡ Ok form
+    → Path (opening form) n d → coming d ≡ a_pivot entering → n < pivots

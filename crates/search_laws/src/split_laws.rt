@@ -39,7 +39,8 @@ pub fn splits_that_divide_bound_the_nodes()
     ensures closed { (m : Model) (p : Params) (k : ℕ) → RelaxationLaw m → IsClosed m → CountsNodes p (nodes_below (splits_within m) []) (plain_cut m p k).outcome }
 {}
 
-/// Where each relaxation takes few pivots, a limit on pivots that allows them in each node that there may be isn't met.
+/// Where each relaxation that splits may come to takes few pivots, a limit on pivots that allows them in each node that there may be
+/// isn't met.
 pub fn enough_pivots_are_never_the_limit()
     ensures any { (m : Model) (p : Params) (splits : List Cut → ℕ) (each k : ℕ) → IsDivided m splits → IsBrief m each → each * nodes_below splits [] ≤ p.iterations
         → (plain_cut m p k).outcome.status ≢ ITERATION_LIMIT }

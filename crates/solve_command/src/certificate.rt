@@ -10,6 +10,7 @@ use base_names::{NoMemory, Text};
 use branch_tree::Solving;
 use cert_text::write;
 use model_data::{Cert, Model, Outcome, Params};
+use node_laws::solves_keep_their_bounds;
 use solver_laws::solves_are_right;
 use std::alloc::Global;
 
@@ -19,6 +20,7 @@ pub(crate) fn certificate_of(alloc: Global, model: Model, params: &Params) -> Re
     ensures { IfOk result (λ answer. IsSolved params.now model answer) }
 {
     solves_are_right(&model);
+    solves_keep_their_bounds(&model);
     let (outcome, cert) = outcome_of(alloc, model, *params)?;
     write(alloc, &outcome, &cert)
 }

@@ -1,4 +1,4 @@
-use Rattle.std.proofs.Common.{◌≡◌, ◌∙◌, ap, subst, refl, codes, Option, sym}
+use Rattle.std.proofs.Common.{◌∙◌, ap, subst, refl, codes, Option}
 use Rattle.std.specs.Option.{option_copied}
 use Rattle.clap.specs.Matches.{found_of}
 use Rattle.command_words.specs.Given.{Word, value_of}

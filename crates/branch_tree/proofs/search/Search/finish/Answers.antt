@@ -1,12 +1,7 @@
-use Rattle.std.proofs.Common.{◌≡◌, ◌∙◌, refl, sym, ap, ap₂, subst, ℕ, ◌<◌, suc, Option, Some, None, Result, Ok, Err, IfOk, IsOk, List, [], ◌∷◌, ◌++◌, All, drop, length, is_some, true, arith, rules}
-use Rattle.dictionary.specs.Dictionary.{Dictionary}
+use Rattle.std.proofs.Common.{◌≡◌, ◌∙◌, refl, sym, ap, ap₂, subst, Some, IfOk, rules}
 use Rattle.model_data.specs.declared.model.Model.{Model}
-use Rattle.model_data.specs.declared.params.Params.{Params}
-use Rattle.solve_defs.specs.declared.cut.Cut.{Cut}
-use Rattle.std_form.specs.Cuts.{IsCutOf}
 use Rattle.branch_tree.specs.Stage.{Stage}
-use Rattle.branch_tree.specs.Waits.{Open, next_of}
-use Rattle.solve_defs.specs.Plain.{Node, Turn, over, silent, with_node}
+use Rattle.solve_defs.specs.Plain.{Node, over, silent, with_node}
 use Rattle.solve_defs.specs.declared.solving.Events.{Events}
 use Rattle.branch_tree.specs.Findings.{turn_by}
 use Rattle.branch_tree.specs.Stage.{Makes, turn_of}
@@ -15,7 +10,6 @@ use Rattle.branch_tree.specs.declared.finding.Finding.{Finding}
 use Rattle.branch_tree.specs.declared.finding.Finding.TheVariants.{Halved, RisingRelaxed, TooWide}
 use Rattle.branch_tree.specs.declared.step.Step.{Step}
 use Rattle.branch_tree.specs.Counted.{IsCounted}
-use Rattle.branch_tree.specs.Next.{told_of}
 use Rattle.branch_tree.specs.declared.counts.Counts.{Counts}
 use Rattle.solve_defs.specs.Plain.{no_events, node_event}
 use Rattle.branch_tree.proofs.search.Search.finish.Goals as goal

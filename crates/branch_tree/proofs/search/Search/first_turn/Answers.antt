@@ -1,18 +1,12 @@
-use Rattle.std.proofs.Common.{◌≡◌, ◌∙◌, refl, sym, ap, ap₂, subst, ℕ, ◌<◌, suc, Option, Some, None, Result, Ok, Err, IfOk, IsOk, List, [], ◌∷◌, ◌++◌, All, drop, length, rules}
-use Rattle.dictionary.specs.Dictionary.{Dictionary}
+use Rattle.std.proofs.Common.{◌≡◌, ◌∙◌, refl, sym, ap, Some, Ok, Err, List, [], ◌∷◌, rules}
 use Rattle.model_data.specs.declared.model.Model.{Model}
 use Rattle.model_data.specs.declared.params.Params.{Params}
 use Rattle.solve_defs.specs.declared.cut.Cut.{Cut}
-use Rattle.solve_defs.specs.declared.solving.Events.{Events}
-use Rattle.std_form.specs.Cuts.{IsCutOf}
-use Rattle.simplex_rule.specs.OnPath.{IsOnPath}
-use Rattle.branch_tree.specs.Counted.{IsCounted, stopped_by}
-use Rattle.branch_tree.specs.Stage.{Makes, Stage, begun_as, turn_of}
-use Rattle.branch_tree.specs.Waits.{Open, next_of}
-use Rattle.branch_tree.specs.declared.counts.Counts.{Counts}
-use Rattle.branch_tree.specs.declared.counts.Stop.{Stop}
+use Rattle.branch_tree.specs.Counted.{IsCounted}
+use Rattle.branch_tree.specs.Stage.{Stage, begun_as, turn_of}
+use Rattle.branch_tree.specs.Waits.{Open}
 use Rattle.branch_tree.specs.declared.step.Step.{Step}
-use Rattle.solve_defs.specs.Plain.{Node, Search, Turn, begun, silent, turn}
+use Rattle.solve_defs.specs.Plain.{Search, Turn, begun, silent}
 use Rattle.solve_defs.specs.Path.{coming}
 use Rattle.solve_defs.specs.Plain.{node_turn}
 use Rattle.branch_tree.specs.Under.{node_of, waiting_of}

@@ -1,16 +1,9 @@
-use Rattle.std.proofs.Common.{◌≡◌, ◌∙◌, refl, sym, ap, ap₂, subst, ℕ, ◌<◌, suc, Option, Some, None, Result, Ok, Err, IfOk, IsOk, List, [], ◌∷◌, ◌++◌, All, drop, length, is_some, true, arith, rules}
-use Rattle.dictionary.specs.Dictionary.{Dictionary}
-use Rattle.model_data.specs.declared.model.Model.{Model}
-use Rattle.model_data.specs.declared.params.Params.{Params}
-use Rattle.solve_defs.specs.declared.cut.Cut.{Cut}
-use Rattle.std_form.specs.Cuts.{IsCutOf}
-use Rattle.branch_tree.specs.Stage.{Stage}
-use Rattle.branch_tree.specs.Waits.{Open, next_of}
+use Rattle.std.proofs.Common.{◌≡◌, ◌∙◌, sym, ap, subst, rules}
 use Rattle.std.proofs.lemmas.Result.{IfOk-weaker}
 use Rattle.bland_rule.specs.Comes.{coming_of, entering_of}
 use Rattle.bland_rule.specs.declared.entering.Coming.TheVariants.{End, Pivot}
 use Rattle.solve_defs.specs.Path.{Coming, a_pivot, an_end, coming}
-use Rattle.solve_defs.specs.Plain.{Node, Turn, node_turn}
+use Rattle.solve_defs.specs.Plain.{Turn, node_turn}
 use Rattle.branch_tree.specs.Findings.{turn_by}
 use Rattle.branch_tree.specs.Stage.{Makes}
 use Rattle.branch_tree.proofs.search.Search.node_turn.Goals as goal

@@ -1,13 +1,7 @@
-use Rattle.std.proofs.Common.{◌≡◌, ◌∙◌, refl, sym, ap, ap₂, subst, ℕ, ◌<◌, suc, Option, Some, None, Result, Ok, Err, IfOk, IsOk, List, [], ◌∷◌, ◌++◌, All, drop, length, is_some, true, arith, rules}
-use Rattle.dictionary.specs.Dictionary.{Dictionary}
-use Rattle.model_data.specs.declared.model.Model.{Model}
-use Rattle.model_data.specs.declared.params.Params.{Params}
-use Rattle.solve_defs.specs.declared.cut.Cut.{Cut}
-use Rattle.std_form.specs.Cuts.{IsCutOf}
+use Rattle.std.proofs.Common.{◌≡◌, ◌∙◌, sym, ap, subst, Some, is_some, true, rules}
 use Rattle.branch_tree.specs.Stage.{Stage}
-use Rattle.branch_tree.specs.Waits.{Open, next_of}
 use Rattle.std.proofs.lemmas.Result.{IfOk-weaker}
-use Rattle.solve_defs.specs.Plain.{Node, Turn}
+use Rattle.solve_defs.specs.Plain.{Turn}
 use Rattle.branch_tree.specs.Stage.{Makes}
 use Rattle.branch_tree.proofs.Turned.{turn_here}
 use Rattle.branch_tree.proofs.Underway.{node_some}

@@ -1,0 +1,9 @@
+pub mod Bases
+pub mod Clash
+pub mod Entering
+pub mod Kept
+pub mod Leaving
+pub mod NoCycle
+pub mod Passing
+pub mod Steps
+pub mod Switches

@@ -1,0 +1,4 @@
+pub mod Flags
+pub mod PathBound
+pub mod RisingLists
+pub mod Stages
