@@ -12,6 +12,3 @@ mod top_call;
 
 pub use command_words::{Words, WordsFault, read_words};
 pub use top_call::run;
-
-#[cfg(test)]
-mod tests;

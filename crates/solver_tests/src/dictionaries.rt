@@ -13,9 +13,9 @@ use std::test::Fail;
 const LARGE: i128 = 1 << 126;
 
 /// Rows of two coefficients and a right side, and an objective of two coefficients and a constant.
-struct Program {
-    rows: &'static [[Ratio; 3]],
-    obj: [Ratio; 3],
+pub(crate) struct Program {
+    pub(crate) rows: &'static [[Ratio; 3]],
+    pub(crate) obj: [Ratio; 3],
 }
 
 const TWO_PIVOTS: Program = Program {
@@ -55,12 +55,11 @@ fn std_rows(alloc: Global, rows: &[[Ratio; 3]]) -> Result<Seq<StdRow>, Fail> {
     Ok(Seq::of(all))
 }
 
-/// A program of coefficients and right sides by row, and of the objective, whose constant is last.
-pub(crate) fn program(alloc: Global, rows: &[[Ratio; 3]], obj: [Ratio; 3]) -> Result<Std, Fail> {
+pub(crate) fn std_of(alloc: Global, program: &Program) -> Result<Std, Fail> {
     Ok(Std {
-        rows: std_rows(alloc, rows)?,
-        obj: coefs(alloc, &obj)?,
-        constant: frac(obj[2])?,
+        rows: std_rows(alloc, program.rows)?,
+        obj: coefs(alloc, &program.obj)?,
+        constant: frac(program.obj[2])?,
     })
 }
 
@@ -76,8 +75,8 @@ fn opened(rt: &impl Abort, alloc: Global, s: &Std) -> Result<Dict, NoMemory> {
     Dict::new(alloc, s)
 }
 
-fn dict_of(rt: &impl Abort, alloc: Global, of: &Program) -> Result<Dict, Fail> {
-    Ok(opened(rt, alloc, &program(alloc, of.rows, of.obj)?)?)
+fn dict_of(rt: &impl Abort, alloc: Global, program: &Program) -> Result<Dict, Fail> {
+    Ok(opened(rt, alloc, &std_of(alloc, program)?)?)
 }
 
 fn has_basic<T: Tableau>(tableau: &T, basic: &[u32]) -> bool {
@@ -106,7 +105,7 @@ fn has_nonbasic<T: Tableau>(tableau: &T, nonbasic: &[u32]) -> bool {
     true
 }
 
-fn is_ratio(entry: &Frac, ratio: Ratio) -> bool {
+pub(crate) fn is_ratio(entry: &Frac, ratio: Ratio) -> bool {
     (entry.num(), entry.den()) == ratio
 }
 

@@ -3,12 +3,12 @@ ghost use Rattle.std.specs.Prelude.{◌≡◌, IfOk, IsTrue};
 ghost use Rattle.solve_defs.specs.Path.{an_end, coming};
 ghost use Rattle.simplex_rule.specs.OnPath.{IsOnPath};
 
-use crate::dictionaries::program;
+use crate::dictionaries::{Program, is_ratio, std_of};
 use base_names::NoMemory;
 use dictionary::Std;
 use frac128::Frac;
 use lp_certs::{dual_of, farkas_of, point_of, ray_of};
-use sample_models::{Ratio, frac};
+use sample_models::Ratio;
 use simplex_rule::{Coming, LpRun};
 use solve_defs::LpEnd;
 use std::alloc::Global;
@@ -52,63 +52,96 @@ fn ended(run: &LpRun, end: LpEnd) -> bool
     }
 }
 
-fn assert_ratios(rt: &impl Abort, values: &[Frac], expected: &[Ratio]) -> Result<(), Fail> {
-    assert_eq!(rt; values.len(), expected.len());
-    for (value, ratio) in values.iter().zip(expected) {
-        assert_eq!(rt; *value, frac(*ratio)?);
+fn are_ratios(values: &[Frac], expected: &[Ratio]) -> bool {
+    if values.len() != expected.len() {
+        return false;
     }
-    Ok(())
+    for (value, ratio) in values.iter().zip(expected) {
+        if !is_ratio(value, *ratio) {
+            return false;
+        }
+    }
+    true
 }
 
+const ZEROS: &[Ratio] = &[(0, 1), (0, 1)];
+
 /// Maximize x + y, where 2 x + y and x + 3 y are at most 4 and 6.
+const BEST: Program = Program {
+    rows: &[[(2, 1), (1, 1), (4, 1)], [(1, 1), (3, 1), (6, 1)]],
+    obj: [(1, 1), (1, 1), (0, 1)],
+};
+
+/// Whether it is at a best end with this point and these weights of rows.
+fn is_best(alloc: Global, run: &LpRun, xs: &[Ratio], ys: &[Ratio]) -> Result<bool, NoMemory>
+    requires { IsOnPath run.now }
+{
+    if !ended(run, LpEnd::Best) {
+        return Ok(false);
+    }
+    let point = point_of(alloc, run.tableau())?;
+    let duals = dual_of(alloc, run.tableau())?;
+    Ok(
+        are_ratios(point.as_slice(), xs)
+            && are_ratios(duals.ys.as_slice(), ys)
+            && are_ratios(duals.reduced.as_slice(), ZEROS),
+    )
+}
+
 #[test]
 fn best(rt: HostRuntime) -> Result<(), Fail> {
-    let alloc = rt.alloc();
-    let one = (1, 1);
-    let rows = [[(2, 1), one, (4, 1)], [one, (3, 1), (6, 1)]];
-    let form = program(alloc, &rows, [one, one, (0, 1)])?;
-    let mut run = started(&rt, alloc, form)?;
+    let mut run = started(&rt, rt.alloc(), std_of(rt.alloc(), &BEST)?)?;
     assert!(rt; pivoted(&mut run, 9));
     assert!(rt; pivoted(&mut run, 9));
-    assert!(rt; ended(&run, LpEnd::Best));
-    let point = point_of(alloc, run.tableau())?;
-    assert_ratios(&rt, &point, &[(6, 5), (8, 5)])?;
-    let duals = dual_of(alloc, run.tableau())?;
-    assert_ratios(&rt, duals.ys.as_slice(), &[(2, 5), (1, 5)])?;
-    assert_ratios(&rt, duals.reduced.as_slice(), &[(0, 1), (0, 1)])?;
+    assert!(rt; is_best(rt.alloc(), &run, &[(6, 5), (8, 5)], &[(2, 5), (1, 5)])?);
     Ok(())
 }
 
 /// x + y is at most 1 and at least 3.
+const NO_POINT: Program = Program {
+    rows: &[[(1, 1), (1, 1), (1, 1)], [(-1, 1), (-1, 1), (-3, 1)]],
+    obj: [(1, 1), (1, 1), (0, 1)],
+};
+
+fn has_no_point(alloc: Global, run: &LpRun, ys: &[Ratio]) -> Result<bool, NoMemory>
+    requires { IsOnPath run.now }
+{
+    if !ended(run, LpEnd::NoPoint) {
+        return Ok(false);
+    }
+    let duals = farkas_of(alloc, run.tableau())?;
+    Ok(are_ratios(duals.ys.as_slice(), ys) && are_ratios(duals.reduced.as_slice(), ZEROS))
+}
+
 #[test]
 fn no_point(rt: HostRuntime) -> Result<(), Fail> {
-    let alloc = rt.alloc();
-    let one = (1, 1);
-    let back = (-1, 1);
-    let rows = [[one, one, one], [back, back, (-3, 1)]];
-    let form = program(alloc, &rows, [one, one, (0, 1)])?;
-    let mut run = started(&rt, alloc, form)?;
+    let mut run = started(&rt, rt.alloc(), std_of(rt.alloc(), &NO_POINT)?)?;
     assert!(rt; pivoted(&mut run, 16));
     assert!(rt; pivoted(&mut run, 16));
-    assert!(rt; ended(&run, LpEnd::NoPoint));
-    let duals = farkas_of(alloc, run.tableau())?;
-    assert_ratios(&rt, duals.ys.as_slice(), &[(1, 2), (1, 2)])?;
-    assert_ratios(&rt, duals.reduced.as_slice(), &[(0, 1), (0, 1)])?;
+    assert!(rt; has_no_point(rt.alloc(), &run, &[(1, 2), (1, 2)])?);
     Ok(())
 }
 
 /// Maximize x + y, where x less y is at most 1: from (1, 0) both rise alike.
+const UNBOUNDED: Program = Program {
+    rows: &[[(1, 1), (-1, 1), (1, 1)]],
+    obj: [(1, 1), (1, 1), (0, 1)],
+};
+
+fn rises(alloc: Global, run: &LpRun, point: &[Ratio], ray: &[Ratio]) -> Result<bool, NoMemory>
+    requires { IsOnPath run.now }
+{
+    if !ended(run, LpEnd::Unbounded) {
+        return Ok(false);
+    }
+    let end = ray_of(alloc, run.tableau())?;
+    Ok(are_ratios(end.point.as_slice(), point) && are_ratios(end.ray.as_slice(), ray))
+}
+
 #[test]
 fn unbounded(rt: HostRuntime) -> Result<(), Fail> {
-    let alloc = rt.alloc();
-    let one = (1, 1);
-    let rows = [[one, (-1, 1), one]];
-    let form = program(alloc, &rows, [one, one, (0, 1)])?;
-    let mut run = started(&rt, alloc, form)?;
+    let mut run = started(&rt, rt.alloc(), std_of(rt.alloc(), &UNBOUNDED)?)?;
     assert!(rt; pivoted(&mut run, 6));
-    assert!(rt; ended(&run, LpEnd::Unbounded));
-    let end = ray_of(alloc, run.tableau())?;
-    assert_ratios(&rt, end.point.as_slice(), &[(1, 1), (0, 1)])?;
-    assert_ratios(&rt, end.ray.as_slice(), &[(1, 1), (1, 1)])?;
+    assert!(rt; rises(rt.alloc(), &run, &[(1, 1), (0, 1)], &[(1, 1), (1, 1)])?);
     Ok(())
 }
