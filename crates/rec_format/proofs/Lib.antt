@@ -1,0 +1,10 @@
+pub mod Bytes
+pub mod Composing
+pub mod FractionSpelled
+pub mod InOrder
+pub mod ItemsRead
+pub mod LawfulSpelled
+pub mod ByteCounts
+pub mod Mapping
+pub mod PartsSpelled
+pub mod RecordSpelled

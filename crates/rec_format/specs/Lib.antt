@@ -1,0 +1,10 @@
+pub mod Bodies
+pub mod Format
+pub mod Ids
+pub mod Lawful
+pub mod Models
+pub mod Orderly
+pub mod Parameters
+pub mod Records
+pub mod Results
+pub mod Taking
