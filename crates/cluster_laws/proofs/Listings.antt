@@ -88,7 +88,7 @@ seated_order : (job : Job) (jobs : List Job) → IsInOrder jobs → IsInOrder (s
 seated_order job [] order = (tt, tt)
 seated_order job (next ∷ jobs) order = ordered_by job next jobs (is_earlier next.seat job.seat) refl order (seated_order job jobs order.1)
 
-by_seat_order : (jobs : List Job) → IsInOrder (by_seat jobs)
+pub by_seat_order : (jobs : List Job) → IsInOrder (by_seat jobs)
 by_seat_order [] = tt
 by_seat_order (job ∷ jobs) = seated_order job (by_seat jobs) (by_seat_order jobs)
 

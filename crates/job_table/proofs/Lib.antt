@@ -1,0 +1,4 @@
+pub mod Found
+pub mod Given
+pub mod Order
+pub mod Rows

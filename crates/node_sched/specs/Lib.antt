@@ -1,0 +1,6 @@
+pub mod Asked
+pub mod Counts
+pub mod Runs
+pub mod Schedule
+pub mod Slots
+pub mod Turns

@@ -1,0 +1,7 @@
+//! Tests of `node_sched` and `job_table`. They stand here, since a crate with tests of its own is proved twice.
+#![tactic(auto)]
+
+#[cfg(test)]
+mod jobs;
+#[cfg(test)]
+mod placing;
