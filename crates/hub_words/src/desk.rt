@@ -10,9 +10,10 @@ use std::alloc::Global;
 /// What answers the asks of a session.
 pub trait Desk {
     ghost use Rattle.cluster_defs.specs.Asking.{Answers, MayBeAsked, entries_of, fulls_after};
+    ghost use Rattle.hub_words.specs.Object.{Object};
 
-    // Which object this is: for a reference, its borrow.
-    ghost name: { Self → ℕ };
+    // Which object this is, and where its history begins.
+    ghost name: { Self → Object };
 
     // The asks that were answered here, in their order.
     ghost mine: { Self → List Entry };
@@ -30,7 +31,7 @@ pub trait Desk {
 }
 
 impl<D: Desk> Desk for &mut D {
-    ghost name = { λ d. d.ghost_name };
+    ghost name = { λ d. record (D.name d.now) { borrow = d.ghost_name } };
 
     ghost mine = { λ d. D.mine d.now };
 

@@ -15,7 +15,9 @@ struct Stub {
 }
 
 impl Desk for Stub {
-    ghost name = { λ stub. 0 };
+    ghost use Rattle.cluster_defs.specs.Journal.{none_yet};
+
+    ghost name = { λ stub. record { borrow = 0; disk = 0; setup = record { nodes = 0; limit = 0; hard = 0; limits = record { commands = 0; bytes = 0; journal = 0 } }; start = none_yet; faults = 0 } };
 
     ghost mine = { λ stub. stub.entries.items };
 

@@ -1,0 +1,13 @@
+pub mod Answered
+pub mod Finding
+pub mod Keeping
+pub mod Kept
+pub mod Lists
+pub mod MountingFold
+pub mod MountingFound
+pub mod MountingHub
+pub mod Needs
+pub mod Noting
+pub mod Sound
+pub mod Steps
+pub mod Usages

@@ -1,0 +1,9 @@
+pub mod Answering
+pub mod Counting
+pub mod Folding
+pub mod Keeping
+pub mod Mounting
+pub mod Noting
+pub mod Sites
+pub mod Standing
+pub mod State
