@@ -1,6 +1,6 @@
 //! One relaxation, a pivot at a time.
-ghost use Rattle.std.specs.Prelude.{◌≡◌, IfOk, OnOk};
-ghost use Rattle.dictionary.specs.Dictionary.{IsUniform, opening, with_value};
+ghost use Rattle.std.specs.Prelude.{◌≡◌, IfOk, OnErr, OnOk};
+ghost use Rattle.dictionary.specs.Dictionary.{HasSameSizes, IsUniform, opening, with_value};
 ghost use Rattle.dictionary.specs.Solutions.{HasReducedNumbers};
 ghost use Rattle.solve_defs.specs.Path.{a_pivot, coming, entry_count, next};
 ghost use Rattle.bland_rule.specs.Comes.{coming_of, entering_of, work_of};
@@ -83,11 +83,12 @@ impl LpRun {
         requires path { IsOnPath self.old }
         ensures value { with_value result self.new ≡ next (entering_of entering) self.old }
         ensures path { OnOk result (IsOnPath self.new) }
+        ensures sizes { OnErr result (HasSameSizes self.old self.new) }
     {
         pivot_by(&mut self.dict, entering)
     }
 
-    /// The pivot or the end that comes next. It takes no memory. Behind a refused operation nothing is known of the entries.
+    /// The pivot or the end that comes next. It takes no memory. Behind a refused operation nothing is known of the entries, but the sizes are kept.
     pub fn advance(&mut self) -> LpTurn
         requires path { IsOnPath self.old }
         ensures turn { Advances self.old (coming self.old) result self.new }

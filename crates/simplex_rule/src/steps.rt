@@ -1,6 +1,6 @@
 //! One pivot by the rule.
-ghost use Rattle.std.specs.Prelude.{◌≡◌, Contains, IfOk, OnOk, true, ℕ};
-ghost use Rattle.dictionary.specs.Dictionary.{artificial_column, with_value};
+ghost use Rattle.std.specs.Prelude.{◌≡◌, Contains, IfOk, OnErr, OnOk, true, ℕ};
+ghost use Rattle.dictionary.specs.Dictionary.{HasSameSizes, artificial_column, with_value};
 ghost use Rattle.solve_defs.specs.Path.{a_pivot, coming, is_basic, is_phase_one_over, next, settled};
 ghost use Rattle.bland_rule.specs.Comes.{entering_of};
 ghost use Rattle.simplex_rule.specs.OnPath.{IsOnPath, IsPivotPlace, place_of};
@@ -18,13 +18,14 @@ pub(crate) struct Place {
 
 /// The pivot by which this variable enters, as comes next, and the end of phase one where it is over behind it.
 ///
-/// It ends at the first operation that doesn't fit, and then nothing is known of the entries.
+/// It ends at the first operation that doesn't fit. Nothing is known of the entries then, but the sizes are kept.
 pub fn pivot_by<T: Tableau>(t: &mut T, entering: Entering) -> Result<(), Wide>
     requires comes { coming (T.meaning t.old) ≡ a_pivot (entering_of entering) }
     requires path { IsOnPath (T.meaning t.old) }
     requires ready { (row column : ℕ) → T.ready t.old row column }
     ensures value { with_value result (T.meaning t.new) ≡ next (entering_of entering) (T.meaning t.old) }
     ensures path { OnOk result (IsOnPath (T.meaning t.new)) }
+    ensures sizes { OnErr result (HasSameSizes (T.meaning t.old) (T.meaning t.new)) }
 {
     let place = place_of(t, entering)?;
     t.pivot(place.row, place.column)?;
