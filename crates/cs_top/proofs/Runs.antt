@@ -2,18 +2,16 @@
 use Rattle.std.proofs.Common.{◌≡◌, ℕ, false, IfSome, None, Some, List, [], ◌⊎◌, Option, inl, inr, refl, sym, ap, subst, ◌∙◌, arith}
 use Rattle.std.proofs.lemmas.List.{append-nil}
 use Rattle.base_names.specs.Outside.{Reads, Writes}
-use Rattle.base_names.specs.declared.seat.Seat.{Seat}
-use Rattle.base_io.specs.Held.{Held}
-use Rattle.cluster_defs.specs.declared.entry.Entry.{Entry}
 use Rattle.session.specs.Beginning.{at_first}
-use Rattle.session.specs.Conversing.{Converses}
 use Rattle.lp_defs.specs.declared.fault.ModelFault.{ModelFault}
-use Rattle.session.specs.Dialogue.{Told, told_nothing}
-use Rattle.session.specs.Hearing.{Heard}
-use Rattle.session.specs.Session.{Call}
-use Rattle.session.specs.Talk.{Talked}
+use Rattle.session.specs.Dialogue.{Told}
+use Rattle.session_command.specs.Held as held
+use Rattle.session_command.specs.Held.{SessionHeld, Untouched}
+use Rattle.session_command.specs.OnDisk.{Disked, IsRefusedFor, seat_of}
+use Rattle.session_command.specs.declared.command.SessionEnd.{SessionEnd}
+use Rattle.session_command.specs.declared.command.SessionEnd.TheVariants.{Ended, Unopened}
 use Rattle.session.specs.Transcript.{session_writing}
-use Rattle.session.specs.Writing.{Writing, IsNeeded}
+use Rattle.session.specs.Writing.{Writing}
 use Rattle.session.specs.declared.talking.End.{End}
 use Rattle.session.specs.declared.talking.End.TheVariants.{Bye, Closed, ReadFault, WriteFault, TooLong, NoMemory}
 use Rattle.model_command.specs.Says.{Relation, Says}
@@ -26,86 +24,80 @@ use Rattle.frac128.specs.declared.operations.Wide.{Wide}
 use Rattle.verify_command.specs.Verify.{VerifySays}
 use Rattle.verify_command.specs.declared.command.VerifyEnd.{VerifyEnd}
 use Rattle.verify_command.specs.declared.command.VerifyEnd.TheVariants as verify
-use Rattle.cs_top.specs.OwnDesk.{AreOwn}
-use Rattle.cs_top.specs.Run.{IsReportOf, IsSessionStatus, RunSays, RunsAs, ModelRuns, SessionRuns, SessionSays, VerifyRuns, code_of, model_status, seat_of, session_status, verify_status}
+use Rattle.base_names.specs.declared.seat.Role.{Role}
+use Rattle.hub_core.specs.declared.fault.HubFault.{HubFault}
+use Rattle.hub_core.specs.declared.fault.HubFault.TheVariants as hub
+use Rattle.cs_top.specs.Run.{uses_disk, IsReportOf, RunSays, RunsAs, ModelRuns, SessionRuns, SessionSays, VerifyRuns, code_of, held_status, hub_status, model_status, session_status, verify_status}
 use Rattle.cs_top.specs.declared.status.Status.{Status}
-use Rattle.cs_top.specs.declared.status.Status.TheVariants.{NoModel, Done as Done', WordsRefused as WordsRefused', ReadFault as ReadFault', WriteFault as WriteFault', NoMemory as NoMemory', TooLong as TooLong', Invalid, Refused, TooWide}
+use Rattle.cs_top.specs.declared.status.Status.TheVariants.{NoModel, Done as Done', WordsRefused as WordsRefused', ReadFault as ReadFault', WriteFault as WriteFault', DiskFault, NoMemory as NoMemory', TooLong as TooLong', Invalid, Refused, NotAJournal, BadRecord, TooFull, TooWide}
 use Rattle.cs_top.specs.declared.task.Task.{Task}
 use Rattle.cs_top.specs.declared.task.Task.TheVariants.{Session, Solve, Limits, Verify}
-
-pub is_session_status : (end : End) → IsSessionStatus (session_status end)
-is_session_status Bye = tt
-is_session_status Closed = tt
-is_session_status TooLong = tt
-is_session_status ReadFault = tt
-is_session_status WriteFault = tt
-is_session_status NoMemory = tt
 
 neither : (status : ℕ) → (status ≡ 4 → ⊥) → (status ≡ 6 → ⊥) → (status ≡ 4) ⊎ (status ≡ 6) → ⊥
 neither status four six (inl is) = four is
 neither status four six (inr is) = six is
 
-run_says : {Deed : Type 0} (end : End) (writing : Writing Deed) (told : Told Deed) (left left' contents contents' : Option (List ℕ)) → (talked : Talked end writing [] told left left' contents contents') → IsNeeded writing talked.taken told → RunSays (code_of (session_status end)) writing told left left' contents contents'
-run_says Bye writing told left left' contents contents' talked needed = record {
+run_says : {Deed : Type 0} (end : End) (writing : Writing Deed) (told : Told Deed) (left left' contents contents' : Option (List ℕ)) → held.Says end writing told left left' contents contents' → RunSays (code_of (session_status end)) writing told left left' contents contents'
+run_says Bye writing told left left' contents contents' talked = record {
   taken = talked.taken;
   read = talked.read;
   wrote = talked.wrote;
-  needed = needed;
+  needed = talked.needed;
   done = λ _ rest may. ((talked.says rest may).whole, (talked.says rest may).is_too_long);
   ended = λ _. inl (ap writing.is_over (sym (append-nil talked.taken)) ∙ (talked.says [] (inl refl)).is_over);
   too_long = λ is. absurd (omega (arith, is));
   read_fault = λ is. absurd (omega (arith, is));
   in_part = λ is. absurd (neither 0 (λ h. omega (arith, h)) (λ h. omega (arith, h)) is);
 }
-run_says Closed writing told left left' contents contents' talked needed = record {
+run_says Closed writing told left left' contents contents' talked = record {
   taken = talked.taken;
   read = talked.read;
   wrote = talked.wrote;
-  needed = needed;
+  needed = talked.needed;
   done = λ _ rest may. ((talked.says.1 rest may).whole, (talked.says.1 rest may).is_too_long);
   ended = λ _. inr talked.says.0;
   too_long = λ is. absurd (omega (arith, is));
   read_fault = λ is. absurd (omega (arith, is));
   in_part = λ is. absurd (neither 0 (λ h. omega (arith, h)) (λ h. omega (arith, h)) is);
 }
-run_says TooLong writing told left left' contents contents' talked needed = record {
+run_says TooLong writing told left left' contents contents' talked = record {
   taken = talked.taken;
   read = talked.read;
   wrote = talked.wrote;
-  needed = needed;
+  needed = talked.needed;
   done = λ is. absurd (omega (arith, is));
   ended = λ is. absurd (omega (arith, is));
   too_long = λ _ rest may. ((talked.says rest may).whole, (talked.says rest may).is_too_long);
   read_fault = λ is. absurd (omega (arith, is));
   in_part = λ is. absurd (neither 7 (λ h. omega (arith, h)) (λ h. omega (arith, h)) is);
 }
-run_says ReadFault writing told left left' contents contents' talked needed = record {
+run_says ReadFault writing told left left' contents contents' talked = record {
   taken = talked.taken;
   read = talked.read;
   wrote = talked.wrote;
-  needed = needed;
+  needed = talked.needed;
   done = λ is. absurd (omega (arith, is));
   ended = λ is. absurd (omega (arith, is));
   too_long = λ is. absurd (omega (arith, is));
   read_fault = λ _. talked.says;
   in_part = λ is. absurd (neither 3 (λ h. omega (arith, h)) (λ h. omega (arith, h)) is);
 }
-run_says WriteFault writing told left left' contents contents' talked needed = record {
+run_says WriteFault writing told left left' contents contents' talked = record {
   taken = talked.taken;
   read = talked.read;
   wrote = talked.wrote;
-  needed = needed;
+  needed = talked.needed;
   done = λ is. absurd (omega (arith, is));
   ended = λ is. absurd (omega (arith, is));
   too_long = λ is. absurd (omega (arith, is));
   read_fault = λ is. absurd (omega (arith, is));
   in_part = λ _ rest may. talked.says rest may;
 }
-run_says NoMemory writing told left left' contents contents' talked needed = record {
+run_says NoMemory writing told left left' contents contents' talked = record {
   taken = talked.taken;
   read = talked.read;
   wrote = talked.wrote;
-  needed = needed;
+  needed = talked.needed;
   done = λ is. absurd (omega (arith, is));
   ended = λ is. absurd (omega (arith, is));
   too_long = λ is. absurd (omega (arith, is));
@@ -113,33 +105,38 @@ run_says NoMemory writing told left left' contents contents' talked needed = rec
   in_part = λ _ rest may. talked.says rest may;
 }
 
--- where nothing was read, nothing was read too early
-session_needed : (seat : Seat) (heard : List Heard) (taken : List ℕ) (told : Told Call) → (taken ≡ []) ⊎ IsNeeded (session_writing seat at_first heard) taken told → IsNeeded (session_writing seat at_first heard) taken told
-session_needed seat heard taken told (inr needed) = needed
-session_needed seat heard taken told (inl none) = record {
-  before = [];
-  last = [];
-  whole = none;
-  short = omega arith;
-  going = refl;
-  answered = (told, refl);
+-- the session was held
+held_says : (end : End) (owner : List ℕ) (role : Role) (disk : Disked) (left left' contents contents' : Option (List ℕ)) → held.SessionSays end owner role disk left left' contents contents'
+    → SessionSays (code_of (session_status end)) owner role disk left left' contents contents'
+held_says end owner role disk left left' contents contents' s = record {
+  heard = s.heard;
+  told = s.told;
+  says = run_says end (session_writing (seat_of owner role) at_first s.heard) s.told left left' contents contents' s.says;
+  from_file = s.from_file;
 }
 
-session_says : (end : End) (owner : List ℕ) (reader : Held) (mine : List Entry) (left left' contents contents' : Option (List ℕ)) → reader ≡ record { bytes = []; ended = false; given = 0; waiting = None } → Converses end (seat_of owner) reader [] mine 0 0 left left' contents contents' → AreOwn 0 mine → SessionSays (code_of (session_status end)) owner left left' contents contents'
-session_says end owner reader mine left left' contents contents' new converses own =
-    let fresh : Held = record { bytes = []; ended = false; given = 0; waiting = None } in
-    let c = subst (λ (h : Held). Converses end (seat_of owner) h [] mine 0 0 left left' contents contents') new converses in
-    record {
-      heard = c.heard;
-      told = c.told;
-      says = run_says end (session_writing (seat_of owner) at_first c.heard) c.told left left' contents contents' c.talked (session_needed (seat_of owner) c.heard c.talked.taken c.told c.talked.needed);
-      own = subst (AreOwn 0) c.mine_is own;
-      never_full = sym c.fulls_is;
-    }
+ended_runs : (end : End) (owner : List ℕ) (role : Role) (disk : Disked) (left left' contents contents' : Option (List ℕ)) → held.SessionSays end owner role disk left left' contents contents'
+    → SessionRuns owner role disk (session_status end) left left' contents contents'
+ended_runs Bye owner role disk left left' contents contents' s = held_says Bye owner role disk left left' contents contents' s
+ended_runs Closed owner role disk left left' contents contents' s = held_says Closed owner role disk left left' contents contents' s
+ended_runs TooLong owner role disk left left' contents contents' s = held_says TooLong owner role disk left left' contents contents' s
+ended_runs ReadFault owner role disk left left' contents contents' s = held_says ReadFault owner role disk left left' contents contents' s
+ended_runs WriteFault owner role disk left left' contents contents' s = held_says WriteFault owner role disk left left' contents contents' s
+ended_runs NoMemory owner role disk left left' contents contents' s = inr (held_says NoMemory owner role disk left left' contents contents' s)
 
-pub session_runs : (end : End) (owner : List ℕ) (reader : Held) (mine : List Entry) (left left' contents contents' : Option (List ℕ)) → reader ≡ record { bytes = []; ended = false; given = 0; waiting = None } → Converses end (seat_of owner) reader [] mine 0 0 left left' contents contents' → AreOwn 0 mine → SessionRuns owner (session_status end) left left' contents contents'
-session_runs end owner reader mine left left' contents contents' new converses own =
-    (is_session_status end, session_says end owner reader mine left left' contents contents' new converses own)
+-- the file wasn't opened
+unopened_runs : (fault : HubFault) (owner : List ℕ) (role : Role) (disk : Disked) (left left' contents contents' : Option (List ℕ)) → Untouched left left' contents contents' × IsRefusedFor fault disk
+    → SessionRuns owner role disk (hub_status fault) left left' contents contents'
+unopened_runs hub.DiskFailed owner role disk left left' contents contents' is = is.0
+unopened_runs (hub.NotAJournal head) owner role disk left left' contents contents' is = is
+unopened_runs (hub.BadRecord number) owner role disk left left' contents contents' is = is
+unopened_runs (hub.TooFull sum) owner role disk left left' contents contents' is = (is.0, (sum, is.1))
+unopened_runs hub.NoMemory owner role disk left left' contents contents' is = inl is.0
+
+pub session_runs : (end : SessionEnd) (owner : List ℕ) (role : Role) (disk : Disked) (left left' contents contents' : Option (List ℕ)) → SessionHeld end owner role disk left left' contents contents'
+    → SessionRuns owner role disk (held_status end) left left' contents contents'
+session_runs (Ended end) owner role disk left left' contents contents' s = ended_runs end owner role disk left left' contents contents' s
+session_runs (Unopened fault) owner role disk left left' contents contents' s = unopened_runs fault owner role disk left left' contents contents' s
 
 -- ---- a command over the text of a model
 
@@ -175,26 +172,6 @@ none_written : (contents : Option (List ℕ)) → Writes contents contents []
 none_written None = refl
 none_written (Some text) = ap Some (sym (append-nil text))
 
--- where nothing is read and nothing told
-nothing_told : (owner : List ℕ) (left contents : Option (List ℕ)) → SessionSays 6 owner left left contents contents
-nothing_told owner left contents = record {
-  heard = [];
-  told = told_nothing;
-  says = record {
-    taken = [];
-    read = none_read left;
-    wrote = none_written contents;
-    needed = session_needed (seat_of owner) [] [] told_nothing (inl refl);
-    done = λ is. absurd (omega (arith, is));
-    ended = λ is. absurd (omega (arith, is));
-    too_long = λ is. absurd (omega (arith, is));
-    read_fault = λ is. absurd (omega (arith, is));
-    in_part = λ _ rest may. ((session_writing (seat_of owner) at_first []).whole rest, refl);
-  };
-  own = tt;
-  never_full = refl;
-}
-
 nothing_taken : (limit : ℕ) (left : Option (List ℕ)) → Takes limit left left []
 nothing_taken limit left = record { read = none_read left; before = []; last = []; whole = refl; allowed = omega arith; short = omega arith }
 
@@ -202,56 +179,81 @@ nothing_of_model : (is_answer : Relation) (left contents : Option (List ℕ)) �
 nothing_of_model is_answer left contents = ([], nothing_taken _ left, refl)
 
 -- Nothing was done.
-pub nothing_runs : (task : Task) (left contents : Option (List ℕ)) → RunsAs task NoMemory' left left contents contents
-nothing_runs (Session owner) left contents = (tt, nothing_told owner left contents)
-nothing_runs (Solve p) left contents = nothing_of_model (IsSolved p) left contents
-nothing_runs Limits left contents = nothing_of_model TellsLimits left contents
-nothing_runs Verify left contents = ([], nothing_taken _ left, refl)
+pub nothing_runs : (task : Task) (disk : Disked) (left contents : Option (List ℕ)) → RunsAs task disk NoMemory' left left contents contents
+nothing_runs (Session owner role) disk left contents = inl (refl, refl)
+nothing_runs (Solve p) disk left contents = nothing_of_model (IsSolved p) left contents
+nothing_runs Limits disk left contents = nothing_of_model TellsLimits left contents
+nothing_runs Verify disk left contents = ([], nothing_taken _ left, refl)
 
 -- The line of a fault found no memory.
-pub untold_runs : (task : Task) (fault : ModelFault) (left left' contents contents' : Option (List ℕ)) → RunsAs task (NoModel fault) left left' contents contents' → RunsAs task NoMemory' left left' contents contents'
-untold_runs (Session owner) fault left left' contents contents' runs = absurd runs.0
-untold_runs (Solve p) fault left left' contents contents' runs = (runs.0, runs.1.takes, runs.2.1)
-untold_runs Limits fault left left' contents contents' runs = (runs.0, runs.1.takes, runs.2.1)
-untold_runs Verify fault left left' contents contents' runs = (runs.0, runs.1.takes, runs.2.1)
+untold_runs : (task : Task) (disk : Disked) (fault : ModelFault) (left left' contents contents' : Option (List ℕ)) → RunsAs task disk (NoModel fault) left left' contents contents' → RunsAs task disk NoMemory' left left' contents contents'
+untold_runs (Session owner role) disk fault left left' contents contents' runs = absurd runs
+untold_runs (Solve p) disk fault left left' contents contents' runs = (runs.0, runs.1.takes, runs.2.1)
+untold_runs Limits disk fault left left' contents contents' runs = (runs.0, runs.1.takes, runs.2.1)
+untold_runs Verify disk fault left left' contents contents' runs = (runs.0, runs.1.takes, runs.2.1)
 
-untold_line : (task : Task) (line : ℕ) (left left' contents contents' : Option (List ℕ)) → RunsAs task (Refused line) left left' contents contents' → RunsAs task NoMemory' left left' contents contents'
-untold_line (Session owner) line left left' contents contents' runs = absurd runs.0
-untold_line (Solve p) line left left' contents contents' runs = absurd runs
-untold_line Limits line left left' contents contents' runs = absurd runs
-untold_line Verify line left left' contents contents' runs = (runs.0, runs.1.takes, runs.2.1)
+untold_line : (task : Task) (disk : Disked) (line : ℕ) (left left' contents contents' : Option (List ℕ)) → RunsAs task disk (Refused line) left left' contents contents' → RunsAs task disk NoMemory' left left' contents contents'
+untold_line (Session owner role) disk line left left' contents contents' runs = absurd runs
+untold_line (Solve p) disk line left left' contents contents' runs = absurd runs
+untold_line Limits disk line left left' contents contents' runs = absurd runs
+untold_line Verify disk line left left' contents contents' runs = (runs.0, runs.1.takes, runs.2.1)
 
-untold_wide : (task : Task) (wide : Wide) (left left' contents contents' : Option (List ℕ)) → RunsAs task (TooWide wide) left left' contents contents' → RunsAs task NoMemory' left left' contents contents'
-untold_wide (Session owner) wide left left' contents contents' runs = absurd runs.0
-untold_wide (Solve p) wide left left' contents contents' runs = absurd runs
-untold_wide Limits wide left left' contents contents' runs = absurd runs
-untold_wide Verify wide left left' contents contents' runs = (runs.0, runs.1.takes, runs.2.1)
+untold_header : (task : Task) (disk : Disked) (head : List ℕ) (left left' contents contents' : Option (List ℕ)) → RunsAs task disk (NotAJournal head) left left' contents contents' → RunsAs task disk NoMemory' left left' contents contents'
+untold_header (Session owner role) disk head left left' contents contents' runs = inl runs.0
+untold_header (Solve p) disk head left left' contents contents' runs = absurd runs
+untold_header Limits disk head left left' contents contents' runs = absurd runs
+untold_header Verify disk head left left' contents contents' runs = absurd runs
+
+untold_record : (task : Task) (disk : Disked) (number : ℕ) (left left' contents contents' : Option (List ℕ)) → RunsAs task disk (BadRecord number) left left' contents contents' → RunsAs task disk NoMemory' left left' contents contents'
+untold_record (Session owner role) disk number left left' contents contents' runs = inl runs.0
+untold_record (Solve p) disk number left left' contents contents' runs = absurd runs
+untold_record Limits disk number left left' contents contents' runs = absurd runs
+untold_record Verify disk number left left' contents contents' runs = absurd runs
+
+untold_wide : (task : Task) (disk : Disked) (wide : Wide) (left left' contents contents' : Option (List ℕ)) → RunsAs task disk (TooWide wide) left left' contents contents' → RunsAs task disk NoMemory' left left' contents contents'
+untold_wide (Session owner role) disk wide left left' contents contents' runs = absurd runs
+untold_wide (Solve p) disk wide left left' contents contents' runs = absurd runs
+untold_wide Limits disk wide left left' contents contents' runs = absurd runs
+untold_wide Verify disk wide left left' contents contents' runs = (runs.0, runs.1.takes, runs.2.1)
 
 -- the same where words ask for something
-pub asked_nothing_runs : (asked : Option Task) (left contents : Option (List ℕ)) → IfSome asked (λ task. RunsAs task NoMemory' left left contents contents)
-asked_nothing_runs None left contents = tt
-asked_nothing_runs (Some task) left contents = nothing_runs task left contents
+-- what isn't used stays
+pub asked_unmoved : {A : Type 0} (asked : Option Task) (x : A) → IfSome asked (λ task. uses_disk task ≡ false → x ≡ x)
+asked_unmoved None x = tt
+asked_unmoved (Some task) x = λ _. refl
+
+pub asked_nothing_runs : (asked : Option Task) (disk : Disked) (left contents : Option (List ℕ)) → IfSome asked (λ task. RunsAs task disk NoMemory' left left contents contents)
+asked_nothing_runs None disk left contents = tt
+asked_nothing_runs (Some task) disk left contents = nothing_runs task disk left contents
 
 -- What is done is done as well where its status is told.
-told_runs : (task : Task) (status told : Status) (left left' contents contents' : Option (List ℕ)) → IsReportOf status told → RunsAs task status left left' contents contents' → RunsAs task told left left' contents contents'
-told_runs task (NoModel fault) told left left' contents contents' (inl same) runs = subst (λ s. RunsAs task s left left' contents contents') (sym same) runs
-told_runs task (NoModel fault) told left left' contents contents' (inr none) runs =
-    subst (λ s. RunsAs task s left left' contents contents') (sym none) (untold_runs task fault left left' contents contents' runs)
-told_runs task (Refused line) told left left' contents contents' (inl same) runs = subst (λ s. RunsAs task s left left' contents contents') (sym same) runs
-told_runs task (Refused line) told left left' contents contents' (inr none) runs =
-    subst (λ s. RunsAs task s left left' contents contents') (sym none) (untold_line task line left left' contents contents' runs)
-told_runs task (TooWide wide) told left left' contents contents' (inl same) runs = subst (λ s. RunsAs task s left left' contents contents') (sym same) runs
-told_runs task (TooWide wide) told left left' contents contents' (inr none) runs =
-    subst (λ s. RunsAs task s left left' contents contents') (sym none) (untold_wide task wide left left' contents contents' runs)
-told_runs task Invalid told left left' contents contents' same runs = subst (λ s. RunsAs task s left left' contents contents') (sym same) runs
-told_runs task Done' told left left' contents contents' same runs = subst (λ s. RunsAs task s left left' contents contents') (sym same) runs
-told_runs task WordsRefused' told left left' contents contents' same runs = subst (λ s. RunsAs task s left left' contents contents') (sym same) runs
-told_runs task ReadFault' told left left' contents contents' same runs = subst (λ s. RunsAs task s left left' contents contents') (sym same) runs
-told_runs task WriteFault' told left left' contents contents' same runs = subst (λ s. RunsAs task s left left' contents contents') (sym same) runs
-told_runs task NoMemory' told left left' contents contents' same runs = subst (λ s. RunsAs task s left left' contents contents') (sym same) runs
-told_runs task TooLong' told left left' contents contents' same runs = subst (λ s. RunsAs task s left left' contents contents') (sym same) runs
+told_runs : (task : Task) (disk : Disked) (status told : Status) (left left' contents contents' : Option (List ℕ)) → IsReportOf status told → RunsAs task disk status left left' contents contents' → RunsAs task disk told left left' contents contents'
+told_runs task disk (NoModel fault) told left left' contents contents' (inl same) runs = subst (λ s. RunsAs task disk s left left' contents contents') (sym same) runs
+told_runs task disk (NoModel fault) told left left' contents contents' (inr none) runs =
+    subst (λ s. RunsAs task disk s left left' contents contents') (sym none) (untold_runs task disk fault left left' contents contents' runs)
+told_runs task disk (Refused line) told left left' contents contents' (inl same) runs = subst (λ s. RunsAs task disk s left left' contents contents') (sym same) runs
+told_runs task disk (Refused line) told left left' contents contents' (inr none) runs =
+    subst (λ s. RunsAs task disk s left left' contents contents') (sym none) (untold_line task disk line left left' contents contents' runs)
+told_runs task disk (NotAJournal head) told left left' contents contents' (inl same) runs = subst (λ s. RunsAs task disk s left left' contents contents') (sym same) runs
+told_runs task disk (NotAJournal head) told left left' contents contents' (inr none) runs =
+    subst (λ s. RunsAs task disk s left left' contents contents') (sym none) (untold_header task disk head left left' contents contents' runs)
+told_runs task disk (BadRecord number) told left left' contents contents' (inl same) runs = subst (λ s. RunsAs task disk s left left' contents contents') (sym same) runs
+told_runs task disk (BadRecord number) told left left' contents contents' (inr none) runs =
+    subst (λ s. RunsAs task disk s left left' contents contents') (sym none) (untold_record task disk number left left' contents contents' runs)
+told_runs task disk (TooWide wide) told left left' contents contents' (inl same) runs = subst (λ s. RunsAs task disk s left left' contents contents') (sym same) runs
+told_runs task disk (TooWide wide) told left left' contents contents' (inr none) runs =
+    subst (λ s. RunsAs task disk s left left' contents contents') (sym none) (untold_wide task disk wide left left' contents contents' runs)
+told_runs task disk Invalid told left left' contents contents' same runs = subst (λ s. RunsAs task disk s left left' contents contents') (sym same) runs
+told_runs task disk Done' told left left' contents contents' same runs = subst (λ s. RunsAs task disk s left left' contents contents') (sym same) runs
+told_runs task disk WordsRefused' told left left' contents contents' same runs = subst (λ s. RunsAs task disk s left left' contents contents') (sym same) runs
+told_runs task disk ReadFault' told left left' contents contents' same runs = subst (λ s. RunsAs task disk s left left' contents contents') (sym same) runs
+told_runs task disk WriteFault' told left left' contents contents' same runs = subst (λ s. RunsAs task disk s left left' contents contents') (sym same) runs
+told_runs task disk DiskFault told left left' contents contents' same runs = subst (λ s. RunsAs task disk s left left' contents contents') (sym same) runs
+told_runs task disk NoMemory' told left left' contents contents' same runs = subst (λ s. RunsAs task disk s left left' contents contents') (sym same) runs
+told_runs task disk TooLong' told left left' contents contents' same runs = subst (λ s. RunsAs task disk s left left' contents contents') (sym same) runs
+told_runs task disk TooFull told left left' contents contents' same runs = subst (λ s. RunsAs task disk s left left' contents contents') (sym same) runs
 
-pub asked_told_runs : (asked : Option Task) (status told : Status) (left left' contents contents' : Option (List ℕ)) → IsReportOf status told
-    → IfSome asked (λ task. RunsAs task status left left' contents contents') → IfSome asked (λ task. RunsAs task told left left' contents contents')
-asked_told_runs None status told left left' contents contents' report runs = tt
-asked_told_runs (Some task) status told left left' contents contents' report runs = told_runs task status told left left' contents contents' report runs
+pub asked_told_runs : (asked : Option Task) (disk : Disked) (status told : Status) (left left' contents contents' : Option (List ℕ)) → IsReportOf status told
+    → IfSome asked (λ task. RunsAs task disk status left left' contents contents') → IfSome asked (λ task. RunsAs task disk told left left' contents contents')
+asked_told_runs None disk status told left left' contents contents' report runs = tt
+asked_told_runs (Some task) disk status told left left' contents contents' report runs = told_runs task disk status told left left' contents contents' report runs

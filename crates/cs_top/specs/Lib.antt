@@ -1,3 +1,2 @@
-pub mod OwnDesk
 pub mod Run
 pub mod Task

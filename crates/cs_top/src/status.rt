@@ -1,14 +1,16 @@
 //! The statuses of the program, and the lines that tell why.
 
 ghost use Rattle.std.specs.Prelude.{◌≡◌, IfOk};
-ghost use Rattle.cs_top.specs.Run.{IsReportOf, Reports, code_of, error_line, model_status, session_status, verify_status};
+ghost use Rattle.cs_top.specs.Run.{IsReportOf, Reports, code_of, error_line, held_status, hub_status, model_status, verify_status};
 
 use base_io::{Sink, put};
 use base_names::{NoMemory, append};
 use frac128::Wide;
+use hub_core::HubFault;
 use lp_defs::ModelFault;
 use model_command::ModelEnd;
 use session::End;
+use session_command::SessionEnd;
 use std::alloc::Global;
 use verify_command::VerifyEnd;
 
@@ -24,12 +26,20 @@ pub enum Status {
     WordsRefused,
     ReadFault,
     WriteFault,
+    /// A call of the disk failed.
+    DiskFault,
     NoMemory,
     TooLong,
     /// The certificate isn't valid.
     Invalid,
     /// The line of this number is refused.
     Refused(u32),
+    /// The file has another header, which begins so.
+    NotAJournal([u8; 8]),
+    /// The record of this number is none, or isn't taken.
+    BadRecord(u64),
+    /// The file has no room for the outcomes of all that goes on.
+    TooFull,
     /// The first operation of a check that doesn't fit.
     TooWide(Wide),
 }
@@ -45,10 +55,12 @@ impl Status {
             Status::WordsRefused => 2,
             Status::ReadFault => 3,
             Status::WriteFault => 4,
+            Status::DiskFault => 5,
             Status::NoMemory => 6,
             Status::TooLong => 7,
             Status::Invalid => 8,
             Status::Refused(_) => 9,
+            Status::NotAJournal(_) | Status::BadRecord(_) | Status::TooFull => 10,
             Status::TooWide(_) => 11,
         }
     }
@@ -65,10 +77,14 @@ impl Status {
             Status::WordsRefused => reported(self, b"words refused\n", errs),
             Status::ReadFault => reported(self, b"read fault\n", errs),
             Status::WriteFault => reported(self, b"write fault\n", errs),
+            Status::DiskFault => reported(self, b"disk fault\n", errs),
             Status::NoMemory => reported(self, NO_MEMORY_LINE, errs),
             Status::TooLong => reported(self, b"input too long\n", errs),
             Status::Invalid => reported(self, b"certificate invalid\n", errs),
             Status::Refused(line) => report_refused(alloc, *line, errs),
+            Status::NotAJournal(head) => report_header(alloc, *head, errs),
+            Status::BadRecord(number) => report_record(alloc, *number, errs),
+            Status::TooFull => reported(self, b"not a journal: full\n", errs),
             Status::TooWide(wide) => report_wide(alloc, wide, errs),
         }
     }
@@ -125,6 +141,50 @@ fn refused_line(alloc: Global, number: u32) -> Result<Vec<u8>, NoMemory>
     Ok(line)
 }
 
+/// Tells the header that the file has.
+fn report_header<E: Sink>(alloc: Global, head: [u8; 8], errs: &mut E) -> Status
+    ensures same { E.name errs.new ≡ E.name errs.old }
+    ensures status { IsReportOf (Status.NotAJournal head) result }
+    ensures reports { Reports (error_line result) (E.faults errs.old) (E.faults errs.new) (E.contents errs.old) (E.contents errs.new) }
+{
+    match header_line(alloc, head) {
+        Ok(line) => reported(Status::NotAJournal(head), line.as_slice(), errs),
+        Err(_) => reported(Status::NoMemory, NO_MEMORY_LINE, errs),
+    }
+}
+
+fn header_line(alloc: Global, head: [u8; 8]) -> Result<Vec<u8>, NoMemory>
+    ensures { IfOk result (λ line. line.items ≡ error_line (Status.NotAJournal head)) }
+{
+    let digits = hex::encode(alloc, head.as_slice())?;
+    let mut line = Vec::new(alloc);
+    append(
+        &mut line,
+        format_args!("not a journal: {}\n", digits.as_str()),
+    )?;
+    Ok(line)
+}
+
+/// Tells the record that isn't taken.
+fn report_record<E: Sink>(alloc: Global, number: u64, errs: &mut E) -> Status
+    ensures same { E.name errs.new ≡ E.name errs.old }
+    ensures status { IsReportOf (Status.BadRecord number) result }
+    ensures reports { Reports (error_line result) (E.faults errs.old) (E.faults errs.new) (E.contents errs.old) (E.contents errs.new) }
+{
+    match record_line(alloc, number) {
+        Ok(line) => reported(Status::BadRecord(number), line.as_slice(), errs),
+        Err(_) => reported(Status::NoMemory, NO_MEMORY_LINE, errs),
+    }
+}
+
+fn record_line(alloc: Global, number: u64) -> Result<Vec<u8>, NoMemory>
+    ensures { IfOk result (λ line. line.items ≡ error_line (Status.BadRecord number)) }
+{
+    let mut line = Vec::new(alloc);
+    append(&mut line, format_args!("not a journal: record {number}\n"))?;
+    Ok(line)
+}
+
 /// Tells the operation that doesn't fit.
 fn report_wide<E: Sink>(alloc: Global, wide: &Wide, errs: &mut E) -> Status
     ensures same { E.name errs.new ≡ E.name errs.old }
@@ -145,16 +205,31 @@ fn wide_line(alloc: Global, wide: &Wide) -> Result<Vec<u8>, NoMemory>
     Ok(line)
 }
 
-impl From<End> for Status {
-    ghost from_gives = { λ end status. status ≡ session_status end };
+impl From<SessionEnd> for Status {
+    ghost from_gives = { λ end status. status ≡ held_status end };
 
-    fn from(end: End) -> Status {
+    fn from(end: SessionEnd) -> Status {
         match end {
-            End::Bye | End::Closed => Status::Done,
-            End::ReadFault => Status::ReadFault,
-            End::WriteFault => Status::WriteFault,
-            End::NoMemory => Status::NoMemory,
-            End::TooLong => Status::TooLong,
+            SessionEnd::Ended(End::Bye | End::Closed) => Status::Done,
+            SessionEnd::Ended(End::ReadFault) => Status::ReadFault,
+            SessionEnd::Ended(End::WriteFault) => Status::WriteFault,
+            SessionEnd::Ended(End::NoMemory) => Status::NoMemory,
+            SessionEnd::Ended(End::TooLong) => Status::TooLong,
+            SessionEnd::Unopened(fault) => Status::from(fault),
+        }
+    }
+}
+
+impl From<HubFault> for Status {
+    ghost from_gives = { λ fault status. status ≡ hub_status fault };
+
+    fn from(fault: HubFault) -> Status {
+        match fault {
+            HubFault::DiskFailed => Status::DiskFault,
+            HubFault::NotAJournal(head) => Status::NotAJournal(head),
+            HubFault::BadRecord(number) => Status::BadRecord(number),
+            HubFault::TooFull(_) => Status::TooFull,
+            HubFault::NoMemory => Status::NoMemory,
         }
     }
 }

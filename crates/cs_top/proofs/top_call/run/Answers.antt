@@ -6,6 +6,6 @@ pub returns-clause-ends : goal.returns-clause-ends
 returns-clause-ends g c = record {
   status = c.report.result;
   code_is = sym c.code.ensures;
-  runs = asked_told_runs _ c.obey_words-status.result c.report.result _ _ _ _ c.report.ensures.status c.obey_words-status.ensures.runs;
+  runs = asked_told_runs _ _ c.obey_words-status.result c.report.result _ _ _ _ c.report.ensures.status c.obey_words-status.ensures.runs;
   reports = c.report.ensures.reports;
 }
