@@ -18,6 +18,9 @@ use std::io::{self, BufRead, Read, Write};
 
 const MAX_TEXT: usize = 1 << 20;
 
+/// How many commands of an owner a hub counts and answers.
+const MAX_COMMANDS: u32 = 65_536;
+
 /// What a session holds.
 #[derive(Default)]
 struct Session {
@@ -29,6 +32,8 @@ struct Session {
     queued: Vec<(usize, Vec<u8>)>,
     /// The status of each batch.
     batches: Vec<u8>,
+    /// The commands that the hub has counted.
+    asked: u32,
 }
 
 impl Session {
@@ -61,6 +66,16 @@ impl Session {
         b"OK\n"
     }
 
+    /// Counts a command that asks the hub, or answers that the limit is reached.
+    fn is_counted(&mut self, output: &mut impl Write) -> io::Result<bool> {
+        if self.asked == MAX_COMMANDS {
+            output.write_all(b"ERR 15 OWNERFULL COMMANDS\n")?;
+            return Ok(false);
+        }
+        self.asked += 1;
+        Ok(true)
+    }
+
     fn batch(&mut self, output: &mut impl Write) -> io::Result<()> {
         for (var, tag) in self.queued.drain(..) {
             self.tags[var] = Some(tag);
@@ -68,16 +83,22 @@ impl Session {
         if self.tags.iter().all(Option::is_none) {
             return output.write_all(b"ERR 9 NOTAG\n");
         }
+        if !self.is_counted(output)? {
+            return Ok(());
+        }
         self.batches.push(2);
         output.write_all(b"BATCH ")?;
         output.write_all(&self.owner)?;
         writeln!(output, ".{}", self.batches.len())
     }
 
-    fn status(&self, id: &[u8], output: &mut impl Write) -> io::Result<()> {
+    fn status(&mut self, id: &[u8], output: &mut impl Write) -> io::Result<()> {
         let Some((owner, number)) = batch_id(id) else {
             return output.write_all(b"ERR 2 LINE\n");
         };
+        if !self.is_counted(output)? {
+            return Ok(());
+        }
         let status = (number as usize).checked_sub(1).and_then(|place| self.batches.get(place));
         match status {
             Some(status) if owner == self.owner => {

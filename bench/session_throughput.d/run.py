@@ -26,16 +26,17 @@ def commands(mebibytes):
     return opening + turn * times + b'BYE\n', 4 + 11 * times
 
 
-def started(program, source, sink):
-    return subprocess.Popen([program, 'session', 'ada'], stdin=source, stdout=sink)
+def started(program, source, sink, folder):
+    """In a folder of its own, where a session's journal stands."""
+    return subprocess.Popen([os.path.abspath(program), 'session', 'ada'], stdin=source, stdout=sink, cwd=folder)
 
 
 def timed(program, mebibytes):
     text, count = commands(mebibytes)
-    with tempfile.TemporaryFile() as source, tempfile.TemporaryFile() as sink:
+    with tempfile.TemporaryFile() as source, tempfile.TemporaryFile() as sink, tempfile.TemporaryDirectory() as folder:
         source.write(text)
         source.seek(0)
-        child = started(program, source, sink)
+        child = started(program, source, sink, folder)
         _, status, usage = os.wait4(child.pid, 0)
         child.returncode = os.waitstatus_to_exitcode(status)
         if child.returncode != 0:
@@ -46,10 +47,10 @@ def timed(program, mebibytes):
 
 
 def greatest_set(program, mebibytes):
-    with tempfile.TemporaryFile() as source:
+    with tempfile.TemporaryFile() as source, tempfile.TemporaryDirectory() as folder:
         source.write(commands(mebibytes)[0])
         source.seek(0)
-        child, greatest = started(program, source, subprocess.DEVNULL), 0
+        child, greatest = started(program, source, subprocess.DEVNULL, folder), 0
         while child.poll() is None:
             try:
                 with open('/proc/%d/status' % child.pid) as file:
