@@ -8,15 +8,10 @@ ghost use Rattle.table_defs.specs.Taken.{refusal};
 use crate::marks::set_last;
 use crate::names::is_same_batch;
 use crate::places::place_of;
-use crate::table::{BatchTable, SUBMITTED};
+use crate::statuses::{ABORTED, COMPLETED, FAILED, SUBMITTED};
+use crate::table::BatchTable;
 use base_names::{BatchId, Seq};
 use model_data::{AttemptOf, BatchBody, BatchRecord, BatchResult, BatchRow};
-
-const ABORTED: u8 = 3;
-
-const FAILED: u8 = 4;
-
-const COMPLETED: u8 = 5;
 
 impl BatchTable {
     /// Makes of the table what the record says, and takes no memory.

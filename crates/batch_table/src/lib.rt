@@ -9,6 +9,7 @@ mod changes;
 mod marks;
 mod names;
 mod places;
+mod statuses;
 mod table;
 mod testing;
 

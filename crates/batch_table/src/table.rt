@@ -6,13 +6,11 @@ ghost use Rattle.batch_table.specs.Lookups.{going_on};
 ghost use Rattle.table_defs.specs.Table.{greatest, no_rows, row_of};
 
 use crate::places::{place_of, place_of_owner};
+use crate::statuses::SUBMITTED;
 use base_names::{BatchId, NoMemory, Owner};
 use model_data::BatchRow;
 use std::alloc::Global;
 use std::marker::Model;
-
-/// The status of a batch that waits or runs.
-pub(crate) const SUBMITTED: u8 = 2;
 
 /// Batches, and the last number that each owner was given.
 #[derive(Drop)]

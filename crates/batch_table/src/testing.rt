@@ -8,13 +8,10 @@ ghost use Rattle.table_defs.specs.Table.{row_of};
 ghost use Rattle.table_defs.specs.Taken.{is_open, is_over, lost_refusal, may_begin, on_row, refusal};
 
 use crate::names::is_same_batch;
-use crate::table::{BatchTable, SUBMITTED};
+use crate::statuses::{ABORTED, FAILED, SUBMITTED};
+use crate::table::BatchTable;
 use base_names::{BatchId, Refusal, Seq};
 use model_data::{AttemptOf, BatchRecord, BatchRow};
-
-const ABORTED: u8 = 3;
-
-const FAILED: u8 = 4;
 
 /// What is wanted of a batch's row.
 #[derive(Clone, Copy, Debug, PartialEq, Eq)]
