@@ -4,7 +4,9 @@ use Rattle.std.proofs.lemmas.List.{append-nil}
 use Rattle.base_names.specs.Outside.{Reads, Writes}
 use Rattle.session.specs.Beginning.{at_first}
 use Rattle.lp_defs.specs.declared.fault.ModelFault.{ModelFault}
-use Rattle.session.specs.Dialogue.{Told}
+use Rattle.session.specs.Dialogue.{Told, told_nothing}
+use Rattle.session.specs.Talk.{Says as Says'}
+use Rattle.session.proofs.Dialogues.{told_both-nothing}
 use Rattle.session_command.specs.Held as held
 use Rattle.session_command.specs.Held.{SessionHeld, Untouched}
 use Rattle.session_command.specs.OnDisk.{Disked, IsRefusedFor, seat_of}
@@ -24,20 +26,22 @@ use Rattle.frac128.specs.declared.operations.Wide.{Wide}
 use Rattle.verify_command.specs.Verify.{VerifySays}
 use Rattle.verify_command.specs.declared.command.VerifyEnd.{VerifyEnd}
 use Rattle.verify_command.specs.declared.command.VerifyEnd.TheVariants as verify
+use Rattle.replay_command.specs.declared.command.ReplayEnd.{ReplayEnd}
+use Rattle.replay_command.specs.declared.command.ReplayEnd.TheVariants as replay
 use Rattle.base_names.specs.declared.seat.Role.{Role}
 use Rattle.hub_core.specs.declared.fault.HubFault.{HubFault}
 use Rattle.hub_core.specs.declared.fault.HubFault.TheVariants as hub
-use Rattle.cs_top.specs.Run.{uses_disk, IsReportOf, RunSays, RunsAs, ModelRuns, SessionRuns, SessionSays, VerifyRuns, code_of, held_status, hub_status, model_status, session_status, verify_status}
+use Rattle.cs_top.specs.Run.{uses_disk, IsReportOf, RunSays, RunsAs, ModelRuns, ReplayRuns, ReplaySays, SessionRuns, SessionSays, VerifyRuns, code_of, held_status, hub_status, model_status, replay_status, session_status, verify_status}
 use Rattle.cs_top.specs.declared.status.Status.{Status}
 use Rattle.cs_top.specs.declared.status.Status.TheVariants.{NoModel, Done as Done', WordsRefused as WordsRefused', ReadFault as ReadFault', WriteFault as WriteFault', DiskFault, NoMemory as NoMemory', TooLong as TooLong', Invalid, Refused, NotAJournal, BadRecord, TooFull, TooWide}
 use Rattle.cs_top.specs.declared.task.Task.{Task}
-use Rattle.cs_top.specs.declared.task.Task.TheVariants.{Session, Solve, Limits, Verify}
+use Rattle.cs_top.specs.declared.task.Task.TheVariants.{Session, Solve, Limits, Verify, Replay}
 
 neither : (status : ℕ) → (status ≡ 4 → ⊥) → (status ≡ 6 → ⊥) → (status ≡ 4) ⊎ (status ≡ 6) → ⊥
 neither status four six (inl is) = four is
 neither status four six (inr is) = six is
 
-run_says : {Deed : Type 0} (end : End) (writing : Writing Deed) (told : Told Deed) (left left' contents contents' : Option (List ℕ)) → held.Says end writing told left left' contents contents' → RunSays (code_of (session_status end)) writing told left left' contents contents'
+run_says : {Deed : Type 0} (end : End) (writing : Writing Deed) (told : Told Deed) (left left' contents contents' : Option (List ℕ)) → Says' end writing told left left' contents contents' → RunSays (code_of (session_status end)) writing told left left' contents contents'
 run_says Bye writing told left left' contents contents' talked = record {
   taken = talked.taken;
   read = talked.read;
@@ -162,6 +166,16 @@ verify_runs verify.WriteFault left left' contents contents' says = says
 verify_runs verify.NoMemory left left' contents contents' says = says
 verify_runs verify.TooLong left left' contents contents' says = says
 
+-- ---- a script
+
+pub replay_runs : (end : ReplayEnd) (left left' contents contents' : Option (List ℕ)) → ReplaySays end left left' contents contents' → ReplayRuns (replay_status end) left left' contents contents'
+replay_runs replay.Done left left' contents contents' says = says
+replay_runs (replay.Refused line) left left' contents contents' says = says
+replay_runs replay.ReadFault left left' contents contents' says = says
+replay_runs replay.WriteFault left left' contents contents' says = says
+replay_runs replay.NoMemory left left' contents contents' says = says
+replay_runs replay.TooLong left left' contents contents' says = says
+
 -- ---- want of memory
 
 none_read : (left : Option (List ℕ)) → Reads left left []
@@ -178,12 +192,44 @@ nothing_taken limit left = record { read = none_read left; before = []; last = [
 nothing_of_model : (is_answer : Relation) (left contents : Option (List ℕ)) → ModelRuns is_answer NoMemory' left left contents contents
 nothing_of_model is_answer left contents = ([], nothing_taken _ left, refl)
 
+nothing_of_script : (left contents : Option (List ℕ)) → ReplaySays replay.NoMemory left left contents contents
+nothing_of_script left contents = λ plain. record {
+  memory = [];
+  told = told_nothing;
+  says = record {
+    taken = [];
+    read = none_read left;
+    wrote = none_written contents;
+    needed = record { before = []; last = []; whole = refl; short = omega arith; going = refl; answered = (told_nothing, refl) };
+    says = λ rest may. (_, refl);
+  };
+  refuses = λ rest may. tt;
+}
+
+-- what was told of a script up to a line that is refused is a front of it
+untold_script : (line : ℕ) (left left' contents contents' : Option (List ℕ)) → ReplaySays (replay.Refused line) left left' contents contents' → ReplaySays replay.NoMemory left left' contents contents'
+untold_script line left left' contents contents' says = λ plain.
+    let replayed = says plain in
+    record {
+      memory = replayed.memory;
+      told = replayed.told;
+      says = record {
+        taken = replayed.says.taken;
+        read = replayed.says.read;
+        wrote = replayed.says.wrote;
+        needed = replayed.says.needed;
+        says = λ rest may. (told_nothing, told_both-nothing replayed.told ∙ (replayed.says.says rest may).whole);
+      };
+      refuses = λ rest may. tt;
+    }
+
 -- Nothing was done.
 pub nothing_runs : (task : Task) (disk : Disked) (left contents : Option (List ℕ)) → RunsAs task disk NoMemory' left left contents contents
 nothing_runs (Session owner role) disk left contents = inl (refl, refl)
 nothing_runs (Solve p) disk left contents = nothing_of_model (IsSolved p) left contents
 nothing_runs Limits disk left contents = nothing_of_model TellsLimits left contents
 nothing_runs Verify disk left contents = ([], nothing_taken _ left, refl)
+nothing_runs Replay disk left contents = nothing_of_script left contents
 
 -- The line of a fault found no memory.
 untold_runs : (task : Task) (disk : Disked) (fault : ModelFault) (left left' contents contents' : Option (List ℕ)) → RunsAs task disk (NoModel fault) left left' contents contents' → RunsAs task disk NoMemory' left left' contents contents'
@@ -191,30 +237,35 @@ untold_runs (Session owner role) disk fault left left' contents contents' runs =
 untold_runs (Solve p) disk fault left left' contents contents' runs = (runs.0, runs.1.takes, runs.2.1)
 untold_runs Limits disk fault left left' contents contents' runs = (runs.0, runs.1.takes, runs.2.1)
 untold_runs Verify disk fault left left' contents contents' runs = (runs.0, runs.1.takes, runs.2.1)
+untold_runs Replay disk fault left left' contents contents' runs = absurd runs
 
 untold_line : (task : Task) (disk : Disked) (line : ℕ) (left left' contents contents' : Option (List ℕ)) → RunsAs task disk (Refused line) left left' contents contents' → RunsAs task disk NoMemory' left left' contents contents'
 untold_line (Session owner role) disk line left left' contents contents' runs = absurd runs
 untold_line (Solve p) disk line left left' contents contents' runs = absurd runs
 untold_line Limits disk line left left' contents contents' runs = absurd runs
 untold_line Verify disk line left left' contents contents' runs = (runs.0, runs.1.takes, runs.2.1)
+untold_line Replay disk line left left' contents contents' runs = untold_script line left left' contents contents' runs
 
 untold_header : (task : Task) (disk : Disked) (head : List ℕ) (left left' contents contents' : Option (List ℕ)) → RunsAs task disk (NotAJournal head) left left' contents contents' → RunsAs task disk NoMemory' left left' contents contents'
 untold_header (Session owner role) disk head left left' contents contents' runs = inl runs.0
 untold_header (Solve p) disk head left left' contents contents' runs = absurd runs
 untold_header Limits disk head left left' contents contents' runs = absurd runs
 untold_header Verify disk head left left' contents contents' runs = absurd runs
+untold_header Replay disk head left left' contents contents' runs = absurd runs
 
 untold_record : (task : Task) (disk : Disked) (number : ℕ) (left left' contents contents' : Option (List ℕ)) → RunsAs task disk (BadRecord number) left left' contents contents' → RunsAs task disk NoMemory' left left' contents contents'
 untold_record (Session owner role) disk number left left' contents contents' runs = inl runs.0
 untold_record (Solve p) disk number left left' contents contents' runs = absurd runs
 untold_record Limits disk number left left' contents contents' runs = absurd runs
 untold_record Verify disk number left left' contents contents' runs = absurd runs
+untold_record Replay disk number left left' contents contents' runs = absurd runs
 
 untold_wide : (task : Task) (disk : Disked) (wide : Wide) (left left' contents contents' : Option (List ℕ)) → RunsAs task disk (TooWide wide) left left' contents contents' → RunsAs task disk NoMemory' left left' contents contents'
 untold_wide (Session owner role) disk wide left left' contents contents' runs = absurd runs
 untold_wide (Solve p) disk wide left left' contents contents' runs = absurd runs
 untold_wide Limits disk wide left left' contents contents' runs = absurd runs
 untold_wide Verify disk wide left left' contents contents' runs = (runs.0, runs.1.takes, runs.2.1)
+untold_wide Replay disk wide left left' contents contents' runs = absurd runs
 
 -- the same where words ask for something
 -- what isn't used stays

@@ -21,6 +21,11 @@ use Rattle.frac128.specs.Text.{wide_text}
 use Rattle.verify_command.specs.Verify.{VerifySays}
 use Rattle.verify_command.specs.declared.command.VerifyEnd.{VerifyEnd}
 use Rattle.verify_command.specs.declared.command.VerifyEnd.TheVariants as verify
+use Rattle.model_data.specs.declared.batch.BatchBody.{BatchBody}
+use Rattle.model_data.specs.declared.batch.BatchResult.{BatchResult}
+use Rattle.replay_command.specs.Replayed.{Replayed}
+use Rattle.replay_command.specs.declared.command.ReplayEnd.{ReplayEnd}
+use Rattle.replay_command.specs.declared.command.ReplayEnd.TheVariants as replay
 use Rattle.session_command.specs.Held.{Untouched}
 use Rattle.session_command.specs.OnDisk.{AreFromFile, Disked, IsRefusedFor, seat_of}
 use Rattle.session_command.specs.declared.command.SessionEnd.{SessionEnd}
@@ -32,7 +37,7 @@ use Rattle.cs_top.specs.declared.status.Status.{Status}
 use Rattle.cs_top.specs.declared.status.Status.TheVariants.{Done, NoModel, WordsRefused, ReadFault, WriteFault, DiskFault, NoMemory, TooLong, Invalid, Refused, NotAJournal, BadRecord, TooFull, TooWide}
 use Rattle.cs_top.specs.Task.{task_asked}
 use Rattle.cs_top.specs.declared.task.Task.{Task}
-use Rattle.cs_top.specs.declared.task.Task.TheVariants.{Session, Solve, Limits, Verify}
+use Rattle.cs_top.specs.declared.task.Task.TheVariants.{Session, Solve, Limits, Verify, Replay}
 
 abbrev pub code_of : Status → ℕ
 code_of Done = 0
@@ -87,6 +92,14 @@ verify_status verify.ReadFault = ReadFault
 verify_status verify.WriteFault = WriteFault
 verify_status verify.NoMemory = NoMemory
 verify_status verify.TooLong = TooLong
+
+abbrev pub replay_status : ReplayEnd → Status
+replay_status replay.Done = Done
+replay_status (replay.Refused line) = Refused line
+replay_status replay.ReadFault = ReadFault
+replay_status replay.WriteFault = WriteFault
+replay_status replay.NoMemory = NoMemory
+replay_status replay.TooLong = TooLong
 
 -- The statuses: done 0, no model 1, words refused 2, read fault 3, write fault 4, disk fault 5, want of memory 6, input too long 7,
 -- certificate invalid 8, line refused 9, no journal 10, certificate too wide 11.
@@ -171,6 +184,30 @@ VerifyRuns (NotAJournal head) left left' contents contents' = ⊥
 VerifyRuns (BadRecord number) left left' contents contents' = ⊥
 VerifyRuns TooFull left left' contents contents' = ⊥
 
+-- ---- a script
+
+-- whatever batches come to
+abbrev pub ReplaySays : ReplayEnd → (left left' contents contents' : Option (List ℕ)) → Type 0
+ReplaySays end left left' contents contents' = (plain : BatchBody → BatchResult) → Replayed plain end left left' contents contents'
+
+-- The script wrote what its steps give: all of it, all before the line that is refused, before what is too long or before what failed to
+-- be read, or a front of it.
+abbrev pub ReplayRuns : Status → (left left' contents contents' : Option (List ℕ)) → Type 0
+ReplayRuns Done left left' contents contents' = ReplaySays replay.Done left left' contents contents'
+ReplayRuns (NoModel fault) left left' contents contents' = ⊥
+ReplayRuns WordsRefused left left' contents contents' = ⊥
+ReplayRuns ReadFault left left' contents contents' = ReplaySays replay.ReadFault left left' contents contents'
+ReplayRuns WriteFault left left' contents contents' = ReplaySays replay.WriteFault left left' contents contents'
+ReplayRuns DiskFault left left' contents contents' = ⊥
+ReplayRuns NoMemory left left' contents contents' = ReplaySays replay.NoMemory left left' contents contents'
+ReplayRuns TooLong left left' contents contents' = ReplaySays replay.TooLong left left' contents contents'
+ReplayRuns Invalid left left' contents contents' = ⊥
+ReplayRuns (Refused line) left left' contents contents' = ReplaySays (replay.Refused line) left left' contents contents'
+ReplayRuns (NotAJournal head) left left' contents contents' = ⊥
+ReplayRuns (BadRecord number) left left' contents contents' = ⊥
+ReplayRuns TooFull left left' contents contents' = ⊥
+ReplayRuns (TooWide wide) left left' contents contents' = ⊥
+
 -- ---- the program
 
 abbrev pub RunsAs : Task → Disked → Status → (left left' contents contents' : Option (List ℕ)) → Type 0
@@ -178,6 +215,7 @@ RunsAs (Session owner role) disk status left left' contents contents' = SessionR
 RunsAs (Solve p) disk status left left' contents contents' = ModelRuns (IsSolved p) status left left' contents contents'
 RunsAs Limits disk status left left' contents contents' = ModelRuns TellsLimits status left left' contents contents'
 RunsAs Verify disk status left left' contents contents' = VerifyRuns status left left' contents contents'
+RunsAs Replay disk status left left' contents contents' = ReplayRuns status left left' contents contents'
 
 -- a session alone touches the disk
 abbrev pub uses_disk : Task → Bool
@@ -185,6 +223,7 @@ uses_disk (Session owner role) = true
 uses_disk (Solve p) = false
 uses_disk Limits = false
 uses_disk Verify = false
+uses_disk Replay = false
 
 -- the line that tells why
 abbrev pub error_line : Status → List ℕ

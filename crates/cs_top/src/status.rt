@@ -1,7 +1,7 @@
 //! The statuses of the program, and the lines that tell why.
 
 ghost use Rattle.std.specs.Prelude.{◌≡◌, IfOk};
-ghost use Rattle.cs_top.specs.Run.{IsReportOf, Reports, code_of, error_line, held_status, hub_status, model_status, verify_status};
+ghost use Rattle.cs_top.specs.Run.{IsReportOf, Reports, code_of, error_line, held_status, hub_status, model_status, replay_status, verify_status};
 
 use base_io::{Sink, put};
 use base_names::{NoMemory, append};
@@ -9,6 +9,7 @@ use frac128::Wide;
 use hub_core::HubFault;
 use lp_defs::ModelFault;
 use model_command::ModelEnd;
+use replay_command::ReplayEnd;
 use session::End;
 use session_command::SessionEnd;
 use std::alloc::Global;
@@ -33,7 +34,7 @@ pub enum Status {
     /// The certificate isn't valid.
     Invalid,
     /// The line of this number is refused.
-    Refused(u32),
+    Refused(u64),
     /// The file has another header, which begins so.
     NotAJournal([u8; 8]),
     /// The record of this number is none, or isn't taken.
@@ -122,7 +123,7 @@ fn fault_line(alloc: Global, fault: ModelFault) -> Result<Vec<u8>, NoMemory>
 }
 
 /// Tells the line that is refused.
-fn report_refused<E: Sink>(alloc: Global, number: u32, errs: &mut E) -> Status
+fn report_refused<E: Sink>(alloc: Global, number: u64, errs: &mut E) -> Status
     ensures same { E.name errs.new ≡ E.name errs.old }
     ensures status { IsReportOf (Status.Refused number) result }
     ensures reports { Reports (error_line result) (E.faults errs.old) (E.faults errs.new) (E.contents errs.old) (E.contents errs.new) }
@@ -133,7 +134,7 @@ fn report_refused<E: Sink>(alloc: Global, number: u32, errs: &mut E) -> Status
     }
 }
 
-fn refused_line(alloc: Global, number: u32) -> Result<Vec<u8>, NoMemory>
+fn refused_line(alloc: Global, number: u64) -> Result<Vec<u8>, NoMemory>
     ensures { IfOk result (λ line. line.items ≡ error_line (Status.Refused number)) }
 {
     let mut line = Vec::new(alloc);
@@ -249,6 +250,21 @@ impl From<ModelEnd> for Status {
     }
 }
 
+impl From<ReplayEnd> for Status {
+    ghost from_gives = { λ end status. status ≡ replay_status end };
+
+    fn from(end: ReplayEnd) -> Status {
+        match end {
+            ReplayEnd::Done => Status::Done,
+            ReplayEnd::Refused(line) => Status::Refused(line),
+            ReplayEnd::ReadFault => Status::ReadFault,
+            ReplayEnd::WriteFault => Status::WriteFault,
+            ReplayEnd::NoMemory => Status::NoMemory,
+            ReplayEnd::TooLong => Status::TooLong,
+        }
+    }
+}
+
 impl From<VerifyEnd> for Status {
     ghost from_gives = { λ end status. status ≡ verify_status end };
 
@@ -258,7 +274,7 @@ impl From<VerifyEnd> for Status {
             VerifyEnd::Invalid => Status::Invalid,
             VerifyEnd::TooWide(wide) => Status::TooWide(*wide),
             VerifyEnd::NoModel(fault) => Status::NoModel(*fault),
-            VerifyEnd::Refused(line) => Status::Refused(*line),
+            VerifyEnd::Refused(line) => Status::Refused(u64::from(*line)),
             VerifyEnd::ReadFault => Status::ReadFault,
             VerifyEnd::WriteFault => Status::WriteFault,
             VerifyEnd::NoMemory => Status::NoMemory,

@@ -19,6 +19,8 @@ pub enum Task {
     Limits,
     /// Tell whether the certificate of a text is valid.
     Verify,
+    /// Run a script of many sessions over a disk of its own.
+    Replay,
 }
 
 /// What these words have the program do, if it can.
@@ -30,6 +32,7 @@ pub fn task_of(words: &Words) -> Option<Task>
         Words::Solve(params) => Some(Task::Solve(*params)),
         Words::Limits => Some(Task::Limits),
         Words::Verify => Some(Task::Verify),
-        Words::Work(_) | Words::Replay | Words::Load(_) | Words::Serve(_) => None,
+        Words::Replay => Some(Task::Replay),
+        Words::Work(_) | Words::Load(_) | Words::Serve(_) => None,
     }
 }

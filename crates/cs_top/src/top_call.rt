@@ -12,6 +12,7 @@ use base_names::OrMemory;
 use command_words::{WordsFault, read_words};
 use disk_model::Disk;
 use limits_command::limits;
+use replay_command::replay;
 use session_command::hold_session;
 use solve_command::solve;
 use std::alloc::Global;
@@ -19,10 +20,10 @@ use verify_command::verify;
 
 /// Does what the words ask for, and gives the status: 0 where all was done, 1 where the text is no model's,
 /// 2 where the words are refused, 3 and 4 where the source or the sink failed, 5 where the disk failed at the opening of its file, 6 for want of memory, and 7 where the input, or a
-/// line of a session, is too long. A certificate that isn't valid is 8, a line that is refused 9, and a check with an operation that
+/// line of a session or a script, is too long. A certificate that isn't valid is 8, a line that is refused 9, and a check with an operation that
 /// doesn't fit 11. A file that is no journal is 10.
 ///
-/// `words` begins with the program's name; `session NAME`, `solve` with its limits, `limits` and `verify` are what is known. What goes wrong is told
+/// `words` begins with the program's name; `session NAME`, `solve` with its limits, `limits`, `verify` and `replay` are what is known. What goes wrong is told
 /// in one line on `errs`; a failing write there changes nothing. A session keeps its batches on the disk, and finds there
 /// what earlier ones kept; nothing else touches the disk.
 pub fn run<S: Source, K: Sink, E: Sink, D: Disk>(
@@ -113,5 +114,6 @@ fn obey<S: Source, K: Sink, D: Disk>(
         Task::Solve(params) => Status::from(solve(alloc, params, source, sink)),
         Task::Limits => Status::from(limits(alloc, source, sink)),
         Task::Verify => Status::from(verify(alloc, source, sink)),
+        Task::Replay => Status::from(replay(alloc, source, sink)),
     }
 }

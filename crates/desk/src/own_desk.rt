@@ -87,12 +87,15 @@ impl<D: Arms> OwnDesk<D> {
 
 impl<D: Disk> Desk for OwnDesk<D> {
     ghost use Rattle.desk.specs.Desks.{entries_in, object_of};
+    ghost use Rattle.hub_core.specs.Answering.{Asked};
 
     ghost name = { λ d. object_of D.name d.hub };
 
     ghost mine = { λ d. entries_in d.hub.history };
 
     ghost fulls = { λ d. d.fulls };
+
+    ghost makes = { λ old seat ask reply new. Asked D.name D.moment D.left D.calls D.makes D.faults old.hub new.hub seat ask reply };
 
     fn ask(&mut self, alloc: Global, seat: &Seat, ask: Ask) -> Reply {
         let reply = self.hub.ask(alloc, seat, ask);

@@ -32,7 +32,7 @@ use Rattle.disk_model.specs.Calls.{DiskCall}
 use Rattle.disk_model.specs.Moments.{LeavesOnly}
 use Rattle.hub_core.proofs.Sound.{history_more, nothing_done}
 use Rattle.hub_core.proofs.Steps.{free_allowed, step_full, step_refused, step_status}
-use Rattle.hub_core.specs.Answering.{Asked, IsStoreStep, RanFor, asked_record, at_limit, counts_around, creating_refusal, noted_in, told_row, told_status}
+use Rattle.hub_core.specs.Answering.{Asked, DoubtFor, FollowsBy, IsStoreStep, RanFor, asked_record, at_limit, counts_around, creating_refusal, noted_in, told_row, told_status}
 use Rattle.hub_core.specs.Keeping.{WhileKeeping}
 use Rattle.hub_core.specs.Noting.{Noted, event_at, faults_in, noted_of, says_disk, stored_at}
 use Rattle.hub_core.specs.Sites.{site_of}
@@ -94,6 +94,24 @@ row_ran : {D : Type 0} (calls : D → Option (List DiskCall)) (makes : D → Dis
 row_ran calls makes old new r id None same = same
 row_ran calls makes old new r id (Some row) same = same
 
+-- an ask that isn't looked at is nothing to the journal
+unseen_memory : (r : Option BatchRecord) → event_of (answers.Reply (tells.Refused MEMORY)) r ≡ None
+unseen_memory None = refl
+unseen_memory (Some r) = refl
+
+unseen_full : (r : Option BatchRecord) → event_of (answers.Reply (tells.Refused (OWNERFULL Commands))) r ≡ None
+unseen_full None = refl
+unseen_full (Some r) = refl
+
+-- and what is in doubt stays
+row_doubt : (doubt : Option (List ℕ)) (id : BatchId) (found : Option BatchRow) → DoubtFor doubt doubt (told_row id found)
+row_doubt doubt id None = refl
+row_doubt doubt id (Some row) = refl
+
+refused_doubt : (doubt : Option (List ℕ)) (why : Refusal) → DoubtFor doubt doubt (Refused why)
+refused_doubt doubt (DISK before after) = tt
+refused_doubt doubt why = refl
+
 row_answers : (id : BatchId) (found : Option BatchRow) → Answers (told_row id found) (status_of id)
 row_answers id None = tt
 row_answers id (Some row) = refl
@@ -143,15 +161,17 @@ module _ {D : Type 0} (name moment : D → ℕ) (left : D → ℕ → List ℕ �
       sound = subst (λ (n : ℕ). IsSound n (state_of new)) (ap (λ j. faults j.disk) (sym journal)) (subst (λ (x : State D). IsSound (faults h.journal.disk) x) (sym is) quiet_sound);
     }
 
-    pub quiet_asked : Answers reply ask → ((new : State D) → new.disk ≡ h.journal.disk → RanFor calls makes (state_of h) new (asked_record (state_of h) seat ask) reply) → (new : State D) → new ≡ noted_in (state_of h) (record { seat = seat; ask = ask; reply = reply }) (now_at (state_of h)) bytes
+    pub quiet_asked : Answers reply ask → ((new : State D) → new.disk ≡ h.journal.disk → RanFor calls makes (state_of h) new (asked_record (state_of h) seat ask) reply) → DoubtFor (state_of h).doubt (state_of h).doubt reply → (new : State D) → new ≡ noted_in (state_of h) (record { seat = seat; ask = ask; reply = reply }) (now_at (state_of h)) bytes
         → Asked name moment left calls makes faults (state_of h) new seat ask reply
-    quiet_asked kind ran new is = subst (λ (x : State D). Asked name moment left calls makes faults (state_of h) x seat ask reply) (sym is) (record {
+    quiet_asked kind ran doubt new is = subst (λ (x : State D). Asked name moment left calls makes faults (state_of h) x seat ask reply) (sym is) (record {
       kind = kind;
       step = λ _ plain. step plain;
       memory = λ memory. absurd (not_memory reply memory quiet.memory);
       noted = ap (λ (l : List Noted). h.history.items ++ l) (sym (noted_one seat ask reply (now_at (state_of h)) quiet.full quiet.memory));
       any_moment = nothing_done moment left faults h s (asked_record (state_of h) seat ask);
       ran = ran (noted_in (state_of h) (record { seat = seat; ask = ask; reply = reply }) (now_at (state_of h)) bytes) refl;
+      doubt = doubt;
+      follows = subst (λ (o : Option Event). FollowsBy o (journal_of (state_of h)) (journal_of (state_of h))) (sym event) refl;
       same = refl;
       setup = refl;
       start = (refl, refl);
@@ -166,6 +186,8 @@ module _ {D : Type 0} (name moment : D → ℕ) (left : D → ℕ → List ℕ �
     noted = sym (append-nil h.history.items);
     any_moment = nothing_done moment left faults h s (asked_record (state_of h) seat ask);
     ran = refl;
+    doubt = refl;
+    follows = subst (λ (o : Option Event). FollowsBy o (journal_of (state_of h)) (journal_of (state_of h))) (sym (unseen_memory (asked_record (state_of h) seat ask))) refl;
     same = refl;
     setup = refl;
     start = (refl, refl);
@@ -179,6 +201,8 @@ module _ {D : Type 0} (name moment : D → ℕ) (left : D → ℕ → List ℕ �
     noted = sym (append-nil h.history.items);
     any_moment = nothing_done moment left faults h s (asked_record (state_of h) seat ask);
     ran = refl;
+    doubt = refl;
+    follows = subst (λ (o : Option Event). FollowsBy o (journal_of (state_of h)) (journal_of (state_of h))) (sym (unseen_full (asked_record (state_of h) seat ask))) refl;
     same = refl;
     setup = refl;
     start = (refl, refl);
@@ -197,7 +221,7 @@ module _ {D : Type 0} (name moment : D → ℕ) (left : D → ℕ → List ℕ �
     status_asked = subst (λ (r : Reply). Asked name moment left calls makes faults (state_of h) (state_of new) seat (status_of id) r) (sym told) found where
       found : Asked name moment left calls makes faults (state_of h) (state_of new) seat (status_of id) (told_status h.table.table seat id)
       found = quiet_asked h s seat (status_of id) (told_status h.table.table seat id) 0 free (quiet_row id (seen_row seat id h.table.table)) (λ plain. step_status (site_of plain h.setup) (state_of h).store seat id (faults_in (now_at (state_of h))) free) refl
-          (row_answers id (seen_row seat id h.table.table)) (λ x same. row_ran calls makes (state_of h) x None id (seen_row seat id h.table.table) same) (state_of new) is
+          (row_answers id (seen_row seat id h.table.table)) (λ x same. row_ran calls makes (state_of h) x None id (seen_row seat id h.table.table) same) (row_doubt (state_of h).doubt id (seen_row seat id h.table.table)) (state_of new) is
 
   -- ---- a batch that is refused
   module _ (h : Hub D) (s : IsStanding moment left faults h) (seat : Seat) (body : BatchBody) (why : Refusal) (bytes : ℕ) (free : at_limit (state_of h) seat.owner ≡ false)
@@ -220,4 +244,4 @@ module _ {D : Type 0} (name moment : D → ℕ) (left : D → ℕ → List ℕ �
 
     pub refused_asked : Asked name moment left calls makes faults (state_of h) (state_of new) seat (Create body) (Refused why)
     refused_asked = quiet_asked h s seat (Create body) (Refused why) bytes free quiet_why refused_step (quiet_told why _ quiet_why.disk) tt
-        (λ x same. quiet_ran calls makes (state_of h) x (asked_record (state_of h) seat (Create body)) why quiet_why.disk same) (state_of new) state
+        (λ x same. quiet_ran calls makes (state_of h) x (asked_record (state_of h) seat (Create body)) why quiet_why.disk same) (refused_doubt (state_of h).doubt why) (state_of new) state

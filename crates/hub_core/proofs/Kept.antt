@@ -128,6 +128,8 @@ module _ (law : OneSpelling batch_record) (fits : (r : BatchRecord) → IsLawful
     noted = refl;
     any_moment = appending run;
     ran = ran;
+    doubt = refl;
+    follows = (takes, (more, refl));
     same = same;
     setup = refl;
     start = (refl, refl);
@@ -223,6 +225,8 @@ module _ (law : OneSpelling batch_record) (fits : (r : BatchRecord) → IsLawful
       noted = refl;
       any_moment = appending run;
       ran = ran;
+      doubt = tt;
+      follows = (takes, (refl, doubt_is));
       same = same;
       setup = refl;
       start = (refl, refl);

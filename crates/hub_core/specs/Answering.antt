@@ -1,5 +1,5 @@
 -- What an ask does to a hub and its disk.
-use Rattle.std.specs.Prelude.{◌≡◌, ℕ, ◌||◌, nat_le, true, false, List, [], ◌∷◌, ◌++◌, Bool, Option, None, Some}
+use Rattle.std.specs.Prelude.{◌≡◌, ℕ, ⊤, ◌||◌, nat_le, true, false, List, [], ◌∷◌, ◌++◌, Bool, Option, None, Some}
 use Rattle.base_names.specs.declared.refusal.Refusal.{Refusal}
 use Rattle.base_names.specs.declared.refusal.Refusal.TheVariants.{BATCH, DISK}
 use Rattle.base_names.specs.declared.id.BatchId.{BatchId}
@@ -11,6 +11,9 @@ use Rattle.cluster_defs.specs.Asks.{asked_today}
 use Rattle.cluster_defs.specs.Charges.{counted}
 use Rattle.cluster_defs.specs.Cluster.{usage_of}
 use Rattle.cluster_defs.specs.Refusals.{bytes_refusal, first_of, journal_refusal, most_charges, numbers_refusal, seen_row}
+use Rattle.cluster_defs.specs.Entries as answers
+use Rattle.cluster_defs.specs.Journal.{Event, Follows, Journal}
+use Rattle.cluster_defs.specs.Life.{event_of}
 use Rattle.cluster_defs.specs.Replies.{told_today}
 use Rattle.cluster_defs.specs.Site.{Site}
 use Rattle.cluster_defs.specs.Store.{Store, store_step}
@@ -56,6 +59,22 @@ RanFor calls makes old new r (Status id status) = new.disk ≡ old.disk
 RanFor calls makes old new r (Refused (DISK before after)) = RecordFailed calls makes old new r
 RanFor calls makes old new r (Refused _) = new.disk ≡ old.disk
 
+-- What is in doubt behind an answer: nothing where a record was kept, and what was before where none was appended. For DISK the calls
+-- that were made tell it.
+abbrev pub DoubtFor : (old new : Option (List ℕ)) → Reply → Type 0
+DoubtFor old new (Made id) = new ≡ None
+DoubtFor old new (Status id status) = new ≡ old
+DoubtFor old new (Refused (DISK before after)) = ⊤
+DoubtFor old new (Refused _) = new ≡ old
+
+-- what an answer is to the journal: a record that was kept or that failed, or nothing
+abbrev pub asked_event : {D : Type 0} → State D → Seat → Ask → Reply → Option Event
+asked_event s seat ask reply = event_of (answers.Reply (told_today reply)) (asked_record s seat ask)
+
+abbrev pub FollowsBy : Option Event → Journal → Journal → Type 0
+FollowsBy None j next = next ≡ j
+FollowsBy (Some event) j next = Follows event j next
+
 -- the disk's counts of faults before a call and behind it
 abbrev pub counts_around : {D : Type 0} → (faults : D → ℕ) → (old new : State D) → Counts
 counts_around faults old new = record { before = faults old.disk; after = faults new.disk }
@@ -74,6 +93,8 @@ pub record Asked {D : Type 0} (name : D → ℕ) (moment : D → ℕ) (left : D 
   pub noted : new.history ≡ old.history ++ noted_of seat ask reply (counts_around faults old new)
   pub any_moment : LeavesOnly moment left old.disk new.disk (WhileKeeping (journal_of old) (asked_record old seat ask))
   pub ran : RanFor calls makes old new (asked_record old seat ask) reply
+  pub doubt : DoubtFor old.doubt new.doubt reply
+  pub follows : FollowsBy (asked_event old seat ask reply) (journal_of old) (journal_of new)
   pub same : name new.disk ≡ name old.disk
   pub setup : new.setup ≡ old.setup
   pub start : (new.start ≡ old.start) × (new.begun ≡ old.begun)

@@ -15,6 +15,7 @@ struct Stub {
 }
 
 impl Desk for Stub {
+    ghost use Rattle.std.specs.Prelude.{⊤};
     ghost use Rattle.cluster_defs.specs.Journal.{none_yet};
 
     ghost name = { λ stub. record { borrow = 0; disk = 0; setup = record { nodes = 0; limit = 0; hard = 0; limits = record { commands = 0; bytes = 0; journal = 0 } }; start = none_yet; faults = 0 } };
@@ -22,6 +23,8 @@ impl Desk for Stub {
     ghost mine = { λ stub. stub.entries.items };
 
     ghost fulls = { λ stub. 0 };
+
+    ghost makes = { λ old seat ask reply new. ⊤ };
 
     fn ask(&mut self, _alloc: Global, seat: &Seat, ask: Ask) -> Reply {
         let refusal = match &ask {

@@ -1,9 +1,8 @@
 -- What bytes make behind a beginning, and then more of them.
-use Rattle.std.proofs.Common.{◌≡◌, ℕ, ◌+◌, ◌<◌, List, [], ◌∷◌, ◌++◌, Option, None, Some, length, refl, ap, ap₂, sym, ◌∙◌, append_assoc}
-use Rattle.base_io.specs.declared.limits.TheConstants.{INPUT_LIMIT}
-use Rattle.base_io.specs.Frames.{Frame, Made, InLine, still, behind, with_block, block_len, ended_line, made_from, frames_at_end, frames_to_end}
+use Rattle.std.proofs.Common.{◌≡◌, ℕ, ◌+◌, List, [], ◌++◌, Option, None, Some, length, ap, sym, ◌∙◌, append_assoc}
+use Rattle.base_io.specs.Frames.{Frame, Made, InLine, still, behind, ended_line, made_from, frames_at_end, frames_to_end}
 use Rattle.base_io.proofs.Frames.{made_from-append, frames_to_end-append}
-use Rattle.session.specs.Beginning.{Beginning, begun, made_onward, frames_onward, frames_to_close}
+use Rattle.session.specs.Beginning.{Beginning, begun, made_onward, frames_to_close}
 
 made_of : List Frame → (rest : Made) → Made
 made_of frames rest = record { frames = frames; place = rest.place }

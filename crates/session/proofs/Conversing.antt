@@ -1,29 +1,22 @@
 -- The loop of a session: what holds between two lines, whatever its later lines hear.
-use Rattle.std.proofs.Common.{◌≡◌, ℕ, ◌+◌, ◌-◌, ◌^◌, ◌<◌, Bool, true, false, None, Some, inl, inr, arith, List, [], ◌∷◌, ◌++◌, cond, ◌⊎◌, Option, Result, refl, sym, ap, ap₂, ◌∙◌, subst, append_assoc}
+use Rattle.std.proofs.Common.{◌≡◌, ℕ, Bool, true, false, List, [], ◌∷◌, ◌++◌, cond, ◌⊎◌, Option, refl, sym, ap, ap₂, ◌∙◌, subst, append_assoc}
 use Rattle.std.proofs.lemmas.List.{append-nil}
-use Rattle.base_names.specs.Outside.{Reads, Writes, IsAtEnd}
+use Rattle.base_names.specs.Outside.{Writes, IsAtEnd}
 use Rattle.base_names.specs.Prefix.{IsPrefix}
-use Rattle.base_names.specs.declared.refusal.Refusal.{Refusal}
 use Rattle.base_names.specs.declared.seat.Seat.{Seat}
 use Rattle.base_io.specs.Held.{Held}
-use Rattle.base_io.specs.Frames.{Frame, InLine}
-use Rattle.base_io.specs.Reader.{Passes, Moves}
-use Rattle.base_io.proofs.Frames.{parts_of}
-use Rattle.session.specs.Beginning.{beginning_of}
+use Rattle.base_io.specs.Reader.{Moves}
 use Rattle.cluster_defs.specs.declared.entry.Entry.{Entry}
 use Rattle.session.specs.Conversing.{Converses}
-use Rattle.session.specs.Dialogue.{Told, told_nothing, told_both, Course, Going, Over, Said}
-use Rattle.session.specs.Framing.{IsFrame, IsLastFrame, IsPartOfFrame, IsNoFrame, IsEnd, IsTooLong}
+use Rattle.session.specs.Dialogue.{Told, told_nothing, told_both, Course, Going, Over}
+use Rattle.session.specs.Framing.{IsFrame, IsLastFrame, IsPartOfFrame, IsNoFrame, IsEnd, IsCut, IsTooLong}
 use Rattle.session.specs.Hearing.{Heard, line_effect, is_last, entries_by, fulls_by}
 use Rattle.session.specs.Session.{Session, Call, Effect}
-use Rattle.session.specs.Step.{Steps}
 use Rattle.session.specs.Transcript.{Hearing, wants, said_by, session_dialogue, first_session}
-use Rattle.session.specs.declared.step.Next.TheVariants.{More, Bye, WriteFault, NoMemory}
 use Rattle.session.specs.declared.talking.End.TheVariants as ends
 use Rattle.wire_text.specs.Commands.{command_of}
-use Rattle.session.proofs.Beginnings.{onward-none, close-none}
 use Rattle.session.proofs.Effects.{line-seat, entries_by-append, fulls_by-append}
-use Rattle.session.proofs.Standing.{Stands, Stands-start, Stands-next, Talked-closed, Talked-too_long, Talked-read_fault, Talked-no_frame, Talked-over, Talked-write_fault, Talked-no_answer}
+use Rattle.session.proofs.Standing.{Stands, Stands-start, Stands-next, Talked-closed, Talked-cut, Talked-too_long, Talked-read_fault, Talked-no_frame, Talked-over, Talked-write_fault, Talked-no_answer}
 
 -- the same, where its later lines hear this
 pub record Holds (seat : Seat) (reader : Held) (heard : List Heard) (now : Session) (mine mine' : List Entry) (fulls fulls' : ℕ) (left left' contents contents' : Option (List ℕ)) (held : Held) (later : List Heard) : Type 0 where
@@ -66,6 +59,15 @@ module _ (seat : Seat) (now : Session) (reader old new : Held) (mine middle_mine
     heard = goes.heard ++ [];
     told = (goes.holds []).told;
     talked = Talked-closed session_dialogue _ _ reader old new (goes.holds []).told left between left' contents middle more (goes.holds []).stands moves end;
+    mine_is = (goes.holds []).mine_is;
+    fulls_is = (goes.holds []).fulls_is;
+  }
+
+  pub cut_short : IsCut wants old more new → Converses ends.Closed seat reader mine middle_mine fulls middle_fulls left left' contents middle
+  cut_short cut = record {
+    heard = goes.heard ++ [];
+    told = (goes.holds []).told;
+    talked = Talked-cut session_dialogue _ _ reader old new (goes.holds []).told left between left' contents middle more (goes.holds []).stands moves cut refl;
     mine_is = (goes.holds []).mine_is;
     fulls_is = (goes.holds []).fulls_is;
   }
@@ -172,25 +174,3 @@ module _ (seat : Seat) (now : Session) (reader old new : Held) (mine middle_mine
           mine_is = mine_by before.told.deeds before.mine_is;
           fulls_is = fulls_by_it before.told.deeds before.fulls_is;
         }
-
--- how often a line may be answered without a byte
-abbrev pub waits : Option (List ℕ) → ℕ
-waits None = 0
-waits (Some line) = 1
-
-no_bytes : {frame : Frame} → [] ≡ frame ∷ [] → ⊥
-no_bytes h = cc
-
--- a frame takes a byte, or the line that was given back
-module _ (line block : List ℕ) (old new : Held) (left left' : Option (List ℕ)) where
-  takes_byte : (given : List ℕ) → old.waiting ≡ None → Passes old new left left' given → IsFrame wants line block old given ⊎ IsLastFrame wants line block old given new → old.given < new.given
-  takes_byte [] none passes (inl frame) = absurd (no_bytes (sym (parts_of (onward-none wants (beginning_of old) [] none)).1 ∙ (parts_of frame.one).1))
-  takes_byte [] none passes (inr frame) = absurd (no_bytes (sym (close-none wants (beginning_of old) [] none) ∙ frame.one))
-  takes_byte (byte ∷ bytes) none passes frame = omega (arith, passes.count)
-
-  fewer : (waiting : Option (List ℕ)) → old.waiting ≡ waiting → (given : List ℕ) → Passes old new left left' given → IsFrame wants line block old given ⊎ IsLastFrame wants line block old given new → 2 ^ 40 - new.given + 0 < 2 ^ 40 - old.given + waits waiting
-  fewer None is given passes frame = omega (arith, takes_byte given is passes frame, passes.below)
-  fewer (Some back) is given passes frame = omega (arith, passes.count, passes.below)
-
-  pub goes_down : (given : List ℕ) → Moves (IsPartOfFrame wants) old new left left' given → IsFrame wants line block old given ⊎ IsLastFrame wants line block old given new → 2 ^ 40 - new.given + waits new.waiting < 2 ^ 40 - old.given + waits old.waiting
-  goes_down given moves frame = rw moves.passes.waiting (fewer old.waiting refl given moves.passes frame)

@@ -1,8 +1,8 @@
 -- Laws of what a dialogue tells, for frames and for bytes in pieces.
-use Rattle.std.proofs.Common.{◌≡◌, ℕ, List, [], ◌∷◌, ◌++◌, refl, sym, ap, ap₂, ◌∙◌, append_assoc}
+use Rattle.std.proofs.Common.{◌≡◌, ℕ, List, [], ◌∷◌, refl, sym, ap, ap₂, ◌∙◌, append_assoc}
 use Rattle.std.proofs.lemmas.List.{append-nil}
 use Rattle.base_io.specs.Frames.{Frame}
-use Rattle.session.specs.Dialogue.{Told, told_nothing, told_both, IsFront, Course, Going, Over, Said, Dialogue, behind, says_nothing, said_at, said}
+use Rattle.session.specs.Dialogue.{Told, told_nothing, told_both, IsFront, Course, Over, Said, Dialogue, behind, says_nothing, said}
 
 told_of : {Deed : Type 0} → List ℕ → List Deed → Told Deed
 told_of text deeds = record { text = text; deeds = deeds }

@@ -20,7 +20,7 @@ use Rattle.model_data.specs.declared.params.Params.{Params}
 use Rattle.lazy_model.specs.Lazy.{latest}
 use Rattle.session.specs.Hearing.{Heard, Enough, Short, first_reply, applies_first, short_session, line_effect, entries_by, fulls_by}
 use Rattle.session.specs.Session.{Session, Call, Effect, updated, read_effect, block_effect, queue_effect, tells, tag_effect, var_tag_effect, get_effect, set_effect, has_tag, batch_effect, effect}
-use Rattle.wire_text.specs.Answers.{kind_text, lower_text, number_text, sense_text, upper_text}
+use Rattle.wire_text.specs.Answers.{kind_text, lower_text, number_text, upper_text}
 use Rattle.wire_text.specs.declared.command.Command.{Command}
 use Rattle.wire_text.specs.declared.command.Command.TheVariants.{Read, Queue, Update, GetLb, GetUb, GetObj, GetType, GetRhs, GetSense, GetCoeff, GetVTag, GetNumVars, GetNumConstrs, GetParam, Write, SetParam, Batch, BStatus, Bye}
 

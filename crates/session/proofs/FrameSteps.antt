@@ -1,12 +1,11 @@
 -- The next frame by a line and a block.
-use Rattle.std.proofs.Common.{◌≡◌, ℕ, ◌+◌, ◌-◌, ◌<◌, ◌≤◌, ◌⊎◌, List, [], ◌∷◌, ◌++◌, true, Option, None, Some, Result, Ok, Err, inl, inr, length, refl, ap, ap₂, sym, subst, ◌∙◌, arith, append_assoc, add-zero, zero, suc}
+use Rattle.std.proofs.Common.{◌≡◌, ℕ, ◌+◌, ◌-◌, ◌<◌, ◌⊎◌, List, [], ◌∷◌, ◌++◌, true, Option, None, Some, Result, Ok, Err, inl, inr, length, refl, ap, ap₂, sym, subst, ◌∙◌, arith, append_assoc, add-zero, zero, suc}
 use Rattle.std.specs.Prelude.{IfSome}
 use Rattle.std.proofs.lemmas.Bool.{false≢true}
 use Rattle.std.proofs.lemmas.List.{append-nil}
-use Rattle.base_names.specs.Outside.{Reads}
 use Rattle.base_names.specs.declared.memory.NoMemory.{NoMemory}
 use Rattle.base_names.proofs.Outside.{Reads-none}
-use Rattle.base_io.specs.declared.limits.TheConstants.{LINE_LIMIT, INPUT_LIMIT}
+use Rattle.base_io.specs.declared.limits.TheConstants.{INPUT_LIMIT}
 use Rattle.base_io.specs.declared.piece.Piece.{Piece}
 use Rattle.base_io.specs.declared.piece.Piece.TheVariants.{Line, End as PieceEnd, TooLong as PieceLong, ReadFault as PieceFault}
 use Rattle.base_io.specs.Held.{Held}
@@ -16,10 +15,10 @@ use Rattle.base_io.proofs.Passing.{Passes-more, Needed-none}
 use Rattle.base_io.proofs.Frames.{parts_of, behind-still, part_made, last_line_from}
 use Rattle.base_io.proofs.LongFrames.{frames_to_end-too_long}
 use Rattle.base_io.proofs.BlockFrames.{line_made, asked_made, asked_part_made, long_cases}
-use Rattle.session.specs.Beginning.{Beginning, beginning_of, made_onward, frames_onward, frames_to_close}
+use Rattle.session.specs.Beginning.{beginning_of, made_onward, frames_onward, frames_to_close}
 use Rattle.base_io.specs.Frames as frames
 use Rattle.session.specs.Framing.{IsFrame, IsLastFrame, IsPartOfFrame, ReadsFrame}
-use Rattle.session.specs.declared.frame.NextFrame.TheVariants.{Whole as Read, End, TooLong, ReadFault}
+use Rattle.session.specs.declared.frame.NextFrame.TheVariants.{Whole as Read, Cut as Ended, End, TooLong, ReadFault}
 use Rattle.session.proofs.Beginnings.{onward-append, close-append, close-made, onward-none, close-none, onward-given_back}
 
 -- the bytes of a last line, which no line feed ends
@@ -131,7 +130,7 @@ module _ (wants : List ℕ → Option ℕ) where
   end_without_line old new left left' (none, (a, ended, nothing)) = (
     [],
     moves_line old new left left' [] none a,
-    record { none = inl (close-none wants (beginning_of old) new.bytes none ∙ ap (frames_to_end wants old.given (InLine [])) nothing); ended = ended },
+    record { none = close-none wants (beginning_of old) new.bytes none ∙ ap (frames_to_end wants old.given (InLine [])) nothing; ended = ended },
   )
 
   pub long_without_line : (old new : Held) (left left' : Option (List ℕ)) → LineSays (Ok PieceLong) old new left left' → ReadsFrame wants (Ok TooLong) old new left left'
@@ -236,8 +235,8 @@ module _ (wants : List ℕ → Option ℕ) (old mid new : Held) (left between le
           last = none.1;
         })
 
-  pub end_of_block : GivesBlock size (Ok PieceEnd) mid new between left' → ReadsFrame wants (Ok End) old new left left'
-  end_of_block (b, at_end, part) = (given ++ [], moves_block [] b, record { none = inr (end_cases t.made); ended = at_end }) where
+  pub end_of_block : GivesBlock size (Ok PieceEnd) mid new between left' → ReadsFrame wants (Ok Ended) old new left left'
+  end_of_block (b, at_end, part) = (given ++ [], moves_block [] b, let cut = end_cases t.made in record { line = cut.0; part = cut.1; one = cut.2; ended = at_end }) where
     end_cases : (made_onward wants (beginning_of old) given ≡ ended_line wants line) ⊎ IsLast wants line old mid given → (line part : List ℕ) × (frames_to_close wants (beginning_of old) ((given ++ []) ++ new.bytes) ≡ Cut line part ∷ [])
     end_cases (inl made) =
         let in_block = still (InBlock line new.bytes (block_len wants line - length new.bytes)) in (

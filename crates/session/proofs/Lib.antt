@@ -2,6 +2,8 @@ pub mod Beginnings
 pub mod Conversing
 pub mod Dialogues
 pub mod Effects
+pub mod Firsts
+pub mod FrameBytes
 pub mod FrameSteps
 pub mod Obeying
 pub mod Standing

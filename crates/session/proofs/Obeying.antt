@@ -1,5 +1,5 @@
 -- What a command did, by what its own function says.
-use Rattle.std.proofs.Common.{◌≡◌, ◌<◌, ◌≤◌, arith, Option, None, Some, ℕ, Bool, true, false, cond, nat_le, List, [], ◌∷◌, ◌++◌, ◌⊎◌, inl, inr, Result, Ok, Err, refl, sym, ap, ◌∙◌}
+use Rattle.std.proofs.Common.{◌≡◌, ◌<◌, ◌≤◌, arith, Option, None, Some, ℕ, Bool, true, false, cond, nat_le, List, [], ◌∷◌, ◌++◌, ◌⊎◌, inl, inr, Result, Ok, Err, refl, sym, ap, subst, ◌∙◌}
 use Rattle.std.specs.Prelude.{OnOk, IfOk, unwrap_or}
 use Rattle.std.specs.Result.{IsOk}
 use Rattle.std.proofs.lemmas.Bool.{false≢true, leb-true}
@@ -38,37 +38,38 @@ pub does_say : {A : Type 0} (result : Result A NoMemory) (before line text : Lis
 does_say result before line text session none is = record { does = on_nothing result before line text session none is; alone = refl }
 
 -- the desk isn't asked
-acts_alone : {A : Type 0} (result : Result A NoMemory) (done : Effect) (old new : Session) (text : List ℕ) (mine : List Entry) (fulls : ℕ) → Does result done new text → Acts result done old new text mine mine fulls fulls
-acts_alone result done old new text mine fulls d = record {
+acts_alone : {A : Type 0} (result : Result A NoMemory) (done : Effect) (old new : Session) (text : List ℕ) (mine : List Entry) (fulls : ℕ) (was_asked : List Call → Type 0) → was_asked [] → Does result done new text → Acts result done old new text mine mine fulls fulls was_asked
+acts_alone result done old new text mine fulls was_asked none d = record {
   does = d.does;
   mine_is = sym (ap (λ (calls : List Call). mine ++ entries_by old.seat calls) d.alone ∙ append-nil mine);
   fulls_is = sym (ap (λ (calls : List Call). fulls_by fulls calls) d.alone);
+  asked = subst (λ (calls : List Call). was_asked calls) (sym d.alone) none;
 }
 
-module _ {A : Type 0} (result : Result A NoMemory) (command : Command) (block : List ℕ) (old new : Session) (text : List ℕ) (mine : List Entry) (fulls : ℕ) where
-  pub answers_alone : Does result (effect old command block (Refused MEMORY)) new text → Answers result (Ok command) block old new text mine mine fulls fulls (is_bye command)
+module _ {A : Type 0} (result : Result A NoMemory) (command : Command) (block : List ℕ) (old new : Session) (text : List ℕ) (mine : List Entry) (fulls : ℕ) (was_asked : List Call → Type 0) (none : was_asked []) where
+  pub answers_alone : Does result (effect old command block (Refused MEMORY)) new text → Answers result (Ok command) block old new text mine mine fulls fulls was_asked (is_bye command)
   answers_alone d = record {
     heard = Enough [];
-    acts = acts_alone result (effect old command block (Refused MEMORY)) old new text mine fulls d;
+    acts = acts_alone result (effect old command block (Refused MEMORY)) old new text mine fulls was_asked none d;
     last_is = refl;
   }
 
-  pub answers_maybe : is_bye command ≡ false → MayDo result (effect old command block (Refused MEMORY)) old new text → Answers result (Ok command) block old new text mine mine fulls fulls (is_bye command)
+  pub answers_maybe : is_bye command ≡ false → MayDo result (effect old command block (Refused MEMORY)) old new text → Answers result (Ok command) block old new text mine mine fulls fulls was_asked (is_bye command)
   answers_maybe goes (inl d) = answers_alone d
   answers_maybe goes (inr d) = record {
     heard = Short false;
-    acts = acts_alone result (refuses old MEMORY) old new text mine fulls d;
+    acts = acts_alone result (refuses old MEMORY) old new text mine fulls was_asked none d;
     last_is = sym goes;
   }
 
-pub answers_batch : {A : Type 0} (result : Result A NoMemory) (block : List ℕ) (old new : Session) (text : List ℕ) (mine mine' : List Entry) (fulls fulls' : ℕ) → Submits result old new text mine mine' fulls fulls' → Answers result (Ok Batch) block old new text mine mine' fulls fulls' false
+pub answers_batch : {A : Type 0} (result : Result A NoMemory) (block : List ℕ) (old new : Session) (text : List ℕ) (mine mine' : List Entry) (fulls fulls' : ℕ) (was_asked : List Call → Type 0) → Submits result old new text mine mine' fulls fulls' was_asked → Answers result (Ok Batch) block old new text mine mine' fulls fulls' was_asked false
 unfolding effect
-answers_batch result block old new text mine mine' fulls fulls' (reply, inl acts) = record { heard = Enough (reply ∷ []); acts = acts; last_is = refl }
-answers_batch result block old new text mine mine' fulls fulls' (reply, inr acts) = record { heard = Short true; acts = acts; last_is = refl }
+answers_batch result block old new text mine mine' fulls fulls' was_asked (reply, inl acts) = record { heard = Enough (reply ∷ []); acts = acts; last_is = refl }
+answers_batch result block old new text mine mine' fulls fulls' was_asked (reply, inr acts) = record { heard = Short true; acts = acts; last_is = refl }
 
-pub answers_status : {A : Type 0} (result : Result A NoMemory) (id : BatchId) (block : List ℕ) (old new : Session) (text : List ℕ) (mine mine' : List Entry) (fulls fulls' : ℕ) (reply : Reply) → Acts result (asks old (Status id) reply) old new text mine mine' fulls fulls' → Answers result (Ok (BStatus id)) block old new text mine mine' fulls fulls' false
+pub answers_status : {A : Type 0} (result : Result A NoMemory) (id : BatchId) (block : List ℕ) (old new : Session) (text : List ℕ) (mine mine' : List Entry) (fulls fulls' : ℕ) (was_asked : List Call → Type 0) (reply : Reply) → Acts result (asks old (Status id) reply) old new text mine mine' fulls fulls' was_asked → Answers result (Ok (BStatus id)) block old new text mine mine' fulls fulls' was_asked false
 unfolding effect
-answers_status result id block old new text mine mine' fulls fulls' reply acts = record { heard = Enough (reply ∷ []); acts = acts; last_is = refl }
+answers_status result id block old new text mine mine' fulls fulls' was_asked reply acts = record { heard = Enough (reply ∷ []); acts = acts; last_is = refl }
 
 -- a change that was refused
 pub queue_refused : {A : Type 0} (result : Result A NoMemory) (old new : Session) (change : Change) (next : Result Model Refusal) (refusal : Refusal) (before text : List ℕ) → new ≡ old → before ≡ [] → OnOk result (text ≡ before ++ refusal_line refusal) → (refusal ≡ MEMORY) ⊎ (next ≡ Err refusal) → MayDo result (queue_effect old change next) old new text
@@ -91,20 +92,20 @@ batch_too_large session reply tagged large =
 pub updated_is : (seat : Seat) (model model' : Lazy) (params : Params) (old : Session) → (let s : Session = record { seat = seat; model = model; params = params } in s) ≡ old → model' ≡ record { applied = latest model; queued = [] } → (let s : Session = record { seat = seat; model = model'; params = params } in s) ≡ updated old
 updated_is seat model model' params old is applied = rw (← is, applied) refl
 
-pub submit_refused : {A : Type 0} (result : Result A NoMemory) (old new : Session) (refusal : Refusal) (before text : List ℕ) (mine : List Entry) (fulls : ℕ) → new ≡ updated old → before ≡ [] → OnOk result (text ≡ before ++ refusal_line refusal) → Acts result (refuses (updated old) refusal) old new text mine mine fulls fulls
-submit_refused result old new refusal before text mine fulls same none is =
-    rw same (acts_alone result (refuses (updated old) refusal) old (updated old) text mine fulls (does_say result before (refusal_line refusal) text (updated old) none is))
+pub submit_refused : {A : Type 0} (result : Result A NoMemory) (old new : Session) (refusal : Refusal) (before text : List ℕ) (mine : List Entry) (fulls : ℕ) (was_asked : List Call → Type 0) → was_asked [] → new ≡ updated old → before ≡ [] → OnOk result (text ≡ before ++ refusal_line refusal) → Acts result (refuses (updated old) refusal) old new text mine mine fulls fulls was_asked
+submit_refused result old new refusal before text mine fulls was_asked quiet same none is =
+    rw same (acts_alone result (refuses (updated old) refusal) old (updated old) text mine fulls was_asked quiet (does_say result before (refusal_line refusal) text (updated old) none is))
 
 -- a line that is refused, or for which there is no memory
-pub answers_refused : (result : Result Bool NoMemory) (command : Result Command Refusal) (refusal : Refusal) (block : List ℕ) (old : Session) (before text : List ℕ) (mine : List Entry) (fulls : ℕ) → (refusal ≡ MEMORY) ⊎ (command ≡ Err refusal) → before ≡ [] → OnOk result (text ≡ before ++ refusal_line refusal) → IfOk result (λ last. last ≡ false) → AnswersLine result command block old old text mine mine fulls fulls
-answers_refused result command refusal block old before text mine fulls (inl memory) none is last = record {
+pub answers_refused : (result : Result Bool NoMemory) (command : Result Command Refusal) (refusal : Refusal) (block : List ℕ) (old : Session) (before text : List ℕ) (mine : List Entry) (fulls : ℕ) (was_asked : List Call → Type 0) → was_asked [] → (refusal ≡ MEMORY) ⊎ (command ≡ Err refusal) → before ≡ [] → OnOk result (text ≡ before ++ refusal_line refusal) → IfOk result (λ last. last ≡ false) → AnswersLine result command block old old text mine mine fulls fulls was_asked
+answers_refused result command refusal block old before text mine fulls was_asked quiet (inl memory) none is last = record {
   heard = Short false;
-  acts = acts_alone result (refuses old MEMORY) old old text mine fulls (does_say result before (refusal_line MEMORY) text old none (rw memory at is));
+  acts = acts_alone result (refuses old MEMORY) old old text mine fulls was_asked quiet (does_say result before (refusal_line MEMORY) text old none (rw memory at is));
   last_is = last;
 }
-answers_refused result command refusal block old before text mine fulls (inr refused) none is last = rw refused (record {
+answers_refused result command refusal block old before text mine fulls was_asked quiet (inr refused) none is last = rw refused (record {
   heard = Enough [];
-  acts = acts_alone result (refuses old refusal) old old text mine fulls (does_say result before (refusal_line refusal) text old none is);
+  acts = acts_alone result (refuses old refusal) old old text mine fulls was_asked quiet (does_say result before (refusal_line refusal) text old none is);
   last_is = last;
 })
 

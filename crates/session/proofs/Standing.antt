@@ -1,17 +1,17 @@
 -- The loop of a dialogue: what holds between two lines, and what each way out of it says of the whole.
-use Rattle.std.proofs.Common.{◌≡◌, ℕ, ◌+◌, ◌<◌, true, false, List, [], ◌∷◌, ◌++◌, Bool, length, length-append, Option, None, Some, ◌⊎◌, inl, inr, refl, sym, ap, ap₂, ◌∙◌, subst, arith, append_assoc}
+use Rattle.std.proofs.Common.{◌≡◌, ℕ, true, false, List, [], ◌∷◌, ◌++◌, Bool, length, length-append, Option, ◌⊎◌, inl, inr, refl, sym, ap, ap₂, ◌∙◌, subst, arith, append_assoc}
 use Rattle.std.proofs.lemmas.List.{append-nil}
 use Rattle.std.proofs.lemmas.Bool.{false≢true, cases_Bool}
 use Rattle.base_names.specs.Outside.{Reads, Writes, IsAtEnd}
 use Rattle.base_names.specs.Prefix.{IsPrefix}
 use Rattle.base_names.proofs.Outside.{Reads-none, Reads-more, Writes-none, Writes-more, IsAtEnd-at}
-use Rattle.base_io.specs.Frames.{Frame, Made, Whole, Cut, InLine, made_from, frames_to_end}
+use Rattle.base_io.specs.Frames.{Frame, Whole, Cut, InLine, made_from, frames_to_end}
 use Rattle.base_io.proofs.Frames.{parts_of}
 use Rattle.base_io.specs.Held.{Held}
 use Rattle.base_io.specs.Reader.{Passes, Needed, Moves}
-use Rattle.session.specs.Beginning.{Beginning, beginning_of, made_onward, frames_onward, frames_to_close}
+use Rattle.session.specs.Beginning.{Beginning, beginning_of, frames_onward, frames_to_close}
 use Rattle.session.specs.Dialogue.{Told, told_nothing, told_both, IsFront, Course, Going, Over, Long, Said, Dialogue, is_going, is_over, is_long, says_nothing, behind, said, said_to, said_so_far}
-use Rattle.session.specs.Framing.{IsFrame, IsLastFrame, IsPartOfFrame, IsNoFrame, IsEnd, IsTooLong}
+use Rattle.session.specs.Framing.{IsFrame, IsLastFrame, IsPartOfFrame, IsNoFrame, IsEnd, IsCut, IsTooLong}
 use Rattle.session.specs.Talk.{Talked, Answered}
 use Rattle.session.specs.Writing.{Writing, MayFollow, IsNeeded, writing_by}
 use Rattle.session.specs.declared.talking.End.TheVariants.{Bye, Closed, ReadFault, WriteFault, TooLong, NoMemory}
@@ -230,23 +230,55 @@ module _ {Session Deed : Type 0} (dialogue : Dialogue Session Deed) (first now :
         is_too_long = ap (λ (s : Said Session Deed). is_long s.course) all ∙ is_long_is;
       }
 
-  ended_says : (frames : List Frame) → (frames ≡ []) ⊎ ((line part : List ℕ) × (frames ≡ Cut line part ∷ [])) → said dialogue (Going now) frames ≡ says_nothing (Going now)
-  ended_says frames (inl none) = ap (said dialogue (Going now)) none
-  ended_says frames (inr (line, part, is)) = ap (said dialogue (Going now)) is
+  -- where the input ended behind these frames
+  ended-rest : (frames : List Frame) (rest : List ℕ) → new.ended ≡ true → frames_to_close dialogue.wants (beginning_of old) (more ++ new.bytes) ≡ frames → MayFollow left' rest
+      → said_to dialogue (beginning_of reader) first ((reader.bytes ++ taken) ++ rest) ≡ behind told (said dialogue (Going now) frames)
+  ended-rest frames rest ended are may =
+      said-rest rest may
+      ∙ (ap (λ (bytes : List ℕ). behind told (said dialogue (Going now) (frames_to_close dialogue.wants (beginning_of old) (more ++ bytes)))) (same_rest rest may ended)
+      ∙ ap (λ (fs : List Frame). behind told (said dialogue (Going now) fs)) are)
 
-  -- the input ended before another frame
-  pub Talked-closed : IsEnd dialogue.wants old more new → Talked Closed (writing_by dialogue (beginning_of reader) first) reader.bytes told left left' contents middle
-  Talked-closed end = record {
+  closed_by : (frames : List Frame) → new.ended ≡ true → frames_to_close dialogue.wants (beginning_of old) (more ++ new.bytes) ≡ frames → said dialogue (Going now) frames ≡ says_nothing (Going now)
+      → Talked Closed (writing_by dialogue (beginning_of reader) first) reader.bytes told left left' contents middle
+  closed_by frames ended are silent = record {
     taken = taken;
     read = was_read;
     wrote = stands.wrote;
     needed = seen_needed told given_needed;
     says = (
-      moves.passes.at_end stands.at_end end.ended,
-      λ rest may. told_at rest (Going now) false false refl refl (said-rest rest may
-          ∙ (ap (λ (bytes : List ℕ). behind told (said dialogue (Going now) (frames_to_close dialogue.wants (beginning_of old) (more ++ bytes)))) (same_rest rest may end.ended)
-          ∙ ap (behind told) (ended_says (frames_to_close dialogue.wants (beginning_of old) (more ++ new.bytes)) end.none))),
+      moves.passes.at_end stands.at_end ended,
+      λ rest may. told_at rest (Going now) false false refl refl (ended-rest frames rest ended are may ∙ ap (behind told) silent),
     );
+  }
+
+  -- the input ended before another frame
+  pub Talked-closed : IsEnd dialogue.wants old more new → Talked Closed (writing_by dialogue (beginning_of reader) first) reader.bytes told left left' contents middle
+  Talked-closed end = closed_by [] end.ended end.none refl
+
+  -- the input ended within a block, to which nothing is said
+  pub Talked-cut : (cut : IsCut dialogue.wants old more new) → dialogue.cut now cut.line cut.part ≡ says_nothing (Going now)
+      → Talked Closed (writing_by dialogue (beginning_of reader) first) reader.bytes told left left' contents middle
+  Talked-cut cut silent = closed_by (Cut cut.line cut.part ∷ []) cut.ended cut.one (ap (λ (s : Said Session Deed). behind s.told (said dialogue s.course [])) silent)
+
+  -- the input ended within a block, and with that the dialogue
+  pub Talked-cut_over : (cut : IsCut dialogue.wants old more new) (answer : Said Session Deed) → dialogue.cut now cut.line cut.part ≡ answer → answer.course ≡ Over → (contents' : Option (List ℕ)) → Writes middle contents' answer.told.text
+      → Talked Bye (writing_by dialogue (beginning_of reader) first) reader.bytes (told_both told answer.told) left left' contents contents'
+  Talked-cut_over cut answer is over contents' wrote = record {
+    taken = taken;
+    read = was_read;
+    wrote = Writes-more contents middle contents' told.text answer.told.text stands.wrote wrote;
+    needed = seen_needed (told_both told answer.told) (was_needed answer.told);
+    says = λ rest may.
+        let all : said_to dialogue (beginning_of reader) first ((reader.bytes ++ taken) ++ rest) ≡ record { told = told_both told answer.told; course = Over } =
+        ended-rest (Cut cut.line cut.part ∷ []) rest cut.ended cut.one may
+        ∙ (ap (λ (s : Said Session Deed). behind told (behind s.told (said dialogue s.course []))) is
+        ∙ (ap (behind told) (behind-nothing answer.told answer.course)
+        ∙ ap (λ (c : Course Session). let s : Said Session Deed = record { told = told_both told answer.told; course = c } in s) over)) in
+        record {
+          whole = sym (ap (λ (s : Said Session Deed). s.told) all);
+          is_over = ap (λ (s : Said Session Deed). is_over s.course) all;
+          is_too_long = ap (λ (s : Said Session Deed). is_long s.course) all;
+        };
   }
 
   -- what comes next is too long

@@ -31,10 +31,12 @@ pub record Said (Session Deed : Type 0) : Type 0 where
   pub told : Told Deed
   pub course : Course Session
 
--- How long a block a line asks for, and how a line with its block is answered.
+-- How long a block a line asks for, how a line with its block is answered, and what a line comes to whose block the input's end cuts
+-- short.
 pub record Dialogue (Session Deed : Type 0) : Type 0 where
   pub wants : List ℕ → Option ℕ
   pub answer : Session → (line block : List ℕ) → Said Session Deed
+  pub cut : Session → (line part : List ℕ) → Said Session Deed
 
 abbrev pub is_going : {Session : Type 0} → Course Session → Bool
 is_going (Going session) = true
@@ -59,10 +61,10 @@ abbrev pub behind : {Session Deed : Type 0} → Told Deed → Said Session Deed 
 behind before next = record { told = told_both before next.told; course = next.course }
 
 module _ {Session Deed : Type 0} (dialogue : Dialogue Session Deed) where
-  -- to one frame; a line without its whole block isn't answered
+  -- to one frame
   abbrev pub said_at : Course Session → Frame → Said Session Deed
   said_at (Going session) (Whole line block) = dialogue.answer session line block
-  said_at (Going session) (Cut line part) = says_nothing (Going session)
+  said_at (Going session) (Cut line part) = dialogue.cut session line part
   said_at (Going session) TooLong = says_nothing Long
   said_at Over frame = says_nothing Over
   said_at Long frame = says_nothing Long

@@ -7,7 +7,7 @@ use Rattle.base_io.specs.Held.{Held}
 use Rattle.base_io.specs.Reader.{Moves}
 use Rattle.session.specs.Beginning.{beginning_of, made_onward, frames_onward, frames_to_close}
 use Rattle.session.specs.declared.frame.NextFrame.{NextFrame}
-use Rattle.session.specs.declared.frame.NextFrame.TheVariants.{Whole as Read, End, TooLong, ReadFault}
+use Rattle.session.specs.declared.frame.NextFrame.TheVariants.{Whole as Read, Cut as Ended, End, TooLong, ReadFault}
 
 -- `wants` is how long a block a line asks for.
 
@@ -29,10 +29,16 @@ pub record IsPartOfFrame (wants : List ℕ → Option ℕ) (held : Held) : Type 
 pub record IsNoFrame (wants : List ℕ → Option ℕ) (old : Held) (given : List ℕ) (new : Held) : Type 0 where
   pub none : frames_onward wants (beginning_of old) (given ++ new.bytes) ≡ []
 
--- The input ends, and what was given and what is held is no frame, or a line with a part of its block.
+-- The input ends, and what was given and what is held is no frame.
 pub record IsEnd (wants : List ℕ → Option ℕ) (old : Held) (given : List ℕ) (new : Held) : Type 0 where
-  pub none : (frames_to_close wants (beginning_of old) (given ++ new.bytes) ≡ [])
-      ⊎ ((line part : List ℕ) × (frames_to_close wants (beginning_of old) (given ++ new.bytes) ≡ Cut line part ∷ []))
+  pub none : frames_to_close wants (beginning_of old) (given ++ new.bytes) ≡ []
+  pub ended : new.ended ≡ true
+
+-- The input ends, and what was given and what is held is a line with a part of its block.
+pub record IsCut (wants : List ℕ → Option ℕ) (old : Held) (given : List ℕ) (new : Held) : Type 0 where
+  pub line : List ℕ
+  pub part : List ℕ
+  pub one : frames_to_close wants (beginning_of old) (given ++ new.bytes) ≡ Cut line part ∷ []
   pub ended : new.ended ≡ true
 
 -- The first frame of what was given, of what is held and of what may still come is too long.
@@ -45,6 +51,7 @@ ReadsFrame wants (Ok (Read line block)) old new left left' =
     (given : List ℕ) × Moves (IsPartOfFrame wants) old new left left' given
     × (IsFrame wants line block old given ⊎ IsLastFrame wants line block old given new)
 ReadsFrame wants (Ok End) old new left left' = (given : List ℕ) × Moves (IsPartOfFrame wants) old new left left' given × IsEnd wants old given new
+ReadsFrame wants (Ok Ended) old new left left' = (given : List ℕ) × Moves (IsPartOfFrame wants) old new left left' given × IsCut wants old given new
 ReadsFrame wants (Ok TooLong) old new left left' = (given : List ℕ) × Moves (IsPartOfFrame wants) old new left left' given × IsTooLong wants old given new
 ReadsFrame wants (Ok ReadFault) old new left left' =
     (given : List ℕ) × Moves (IsPartOfFrame wants) old new left left' given × (new.ended ≡ false) × IsNoFrame wants old given new

@@ -1,9 +1,10 @@
 -- What a session hears beside its lines: what the desk replies, and that there is no memory.
-use Rattle.std.specs.Prelude.{Bool, true, false, List, [], ◌∷◌, ◌++◌, ℕ, Result, Ok, Err, if◌then◌else◌}
+use Rattle.std.specs.Prelude.{◌≡◌, Bool, true, false, List, [], ◌∷◌, ◌++◌, ℕ, Result, Ok, Err, if◌then◌else◌}
 use Rattle.base_names.specs.declared.refusal.Refusal.{Refusal}
 use Rattle.base_names.specs.declared.refusal.Refusal.TheVariants.{MEMORY}
 use Rattle.base_names.specs.declared.seat.Seat.{Seat}
 use Rattle.cluster_defs.specs.Asking.{entries_of, fulls_after}
+use Rattle.cluster_defs.specs.declared.ask.Ask.{Ask}
 use Rattle.cluster_defs.specs.declared.entry.Entry.{Entry}
 use Rattle.cluster_defs.specs.declared.reply.Reply.{Reply}
 use Rattle.cluster_defs.specs.declared.reply.Reply.TheVariants.{Refused}
@@ -64,3 +65,8 @@ entries_by seat (call ∷ calls) = entries_of seat call.ask call.reply ++ entrie
 abbrev pub fulls_by : ℕ → List Call → ℕ
 fulls_by fulls [] = fulls
 fulls_by fulls (call ∷ calls) = fulls_by (fulls_after fulls call.reply) calls
+
+-- A desk was asked these, one after the other, by what each ask makes of it.
+abbrev pub WasAsked : {E : Type 0} → (makes : E → Seat → Ask → Reply → E → Type 0) → Seat → (old : E) → List Call → (new : E) → Type 0
+WasAsked makes seat old [] new = new ≡ old
+WasAsked {E} makes seat old (call ∷ calls) new = (mid : E) × makes old seat call.ask call.reply mid × WasAsked makes seat mid calls new

@@ -28,3 +28,12 @@ pub record Talked {Deed : Type 0} (end : End) (writing : Writing Deed) (held : L
   pub wrote : Writes contents contents' told.text
   pub needed : (taken ≡ []) ⊎ IsNeeded writing (held ++ taken) told
   pub says : EndSays end writing (held ++ taken) told left'
+
+-- The same of a program that reads its input from the first byte on. It speaks of the bytes that were taken whether or not the source
+-- tells what it has left.
+pub record Says {Deed : Type 0} (end : End) (writing : Writing Deed) (told : Told Deed) (left left' contents contents' : Option (List ℕ)) : Type 0 where
+  pub taken : List ℕ
+  pub read : Reads left left' taken
+  pub wrote : Writes contents contents' told.text
+  pub needed : IsNeeded writing taken told
+  pub says : EndSays end writing taken told left'

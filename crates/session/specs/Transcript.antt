@@ -5,7 +5,7 @@ use Rattle.base_names.specs.declared.seat.Seat.{Seat}
 use Rattle.model_data.specs.Params.{usual_params}
 use Rattle.model_core.specs.Indexed.{empty_model}
 use Rattle.session.specs.Beginning.{Beginning}
-use Rattle.session.specs.Dialogue.{Course, Going, Over, Said, Dialogue}
+use Rattle.session.specs.Dialogue.{Going, Over, Said, Dialogue, says_nothing}
 use Rattle.session.specs.Hearing.{Heard, Enough, line_effect, is_last}
 use Rattle.session.specs.Session.{Session, Call, Effect}
 use Rattle.session.specs.Writing.{Writing, writing_by}
@@ -38,10 +38,12 @@ said_by done over later = record {
 abbrev pub answer_to : Session → Result Command Refusal → (block : List ℕ) → Heard → (later : List Heard) → Said Hearing Call
 answer_to session command block heard later = said_by (line_effect session command block heard) (is_last command heard) later
 
+-- A line without its whole block isn't answered.
 abbrev pub session_dialogue : Dialogue Hearing Call
 session_dialogue = record {
   wants = wants;
   answer = λ hearing line block. answer_to hearing.session (command_of line) block (first_heard hearing.heard) (heard_later hearing.heard);
+  cut = λ hearing line part. says_nothing (Going hearing);
 }
 
 -- a session of this seat that has read nothing

@@ -1,7 +1,7 @@
 //! One line of a session, answered into a buffer.
 
 ghost use Rattle.std.specs.Prelude.{◌≡◌, [], Ok, Result, IfOk, length, unwrap_or, false, Bool};
-ghost use Rattle.session.specs.Hearing.{is_bye};
+ghost use Rattle.session.specs.Hearing.{WasAsked, is_bye};
 ghost use Rattle.session.specs.Step.{Answers, AnswersLine};
 ghost use Rattle.session.specs.Transcript.{wants};
 ghost use Rattle.wire_text.specs.Commands.{block_len_of, command_of};
@@ -26,7 +26,7 @@ impl State {
         requires block { length block.now ≡ unwrap_or (wants line.now) 0 }
         requires empty { out.old.items ≡ [] }
         ensures same { E.name desk.new ≡ E.name desk.old }
-        ensures answers { AnswersLine result (command_of line.now) block.now self.old self.new out.new.items (E.mine desk.old) (E.mine desk.new) (E.fulls desk.old) (E.fulls desk.new) }
+        ensures answers { AnswersLine result (command_of line.now) block.now self.old self.new out.new.items (E.mine desk.old) (E.mine desk.new) (E.fulls desk.old) (E.fulls desk.new) (λ calls. WasAsked E.makes self.old.seat desk.old calls desk.new) }
     {
         match read_command(alloc, line) {
             Ok(command) => {
@@ -54,7 +54,7 @@ impl State {
         requires block { length block.now ≡ unwrap_or (block_len_of (Ok command)) 0 }
         requires empty { out.old.items ≡ [] }
         ensures same { E.name desk.new ≡ E.name desk.old }
-        ensures answers { Answers result (Ok command) block.now self.old self.new out.new.items (E.mine desk.old) (E.mine desk.new) (E.fulls desk.old) (E.fulls desk.new) (is_bye command) }
+        ensures answers { Answers result (Ok command) block.now self.old self.new out.new.items (E.mine desk.old) (E.mine desk.new) (E.fulls desk.old) (E.fulls desk.new) (λ calls. WasAsked E.makes self.old.seat desk.old calls desk.new) (is_bye command) }
     {
         match command {
             Command::Read(len) => self.read(alloc, len, block, out),

@@ -2,6 +2,7 @@
 
 ghost use Rattle.std.specs.Prelude.{◌≡◌, []};
 ghost use Rattle.cluster_defs.specs.declared.reply.Reply as replies;
+ghost use Rattle.session.specs.Hearing.{WasAsked};
 ghost use Rattle.session.specs.Session.{asks, has_tag};
 ghost use Rattle.session.specs.Step.{Acts, Submits};
 
@@ -22,7 +23,7 @@ impl State {
     ) -> Result<(), NoMemory>
         requires { out.old.items ≡ [] }
         ensures same { E.name desk.new ≡ E.name desk.old }
-        ensures submits { Submits result self.old self.new out.new.items (E.mine desk.old) (E.mine desk.new) (E.fulls desk.old) (E.fulls desk.new) }
+        ensures submits { Submits result self.old self.new out.new.items (E.mine desk.old) (E.mine desk.new) (E.fulls desk.old) (E.fulls desk.new) (λ calls. WasAsked E.makes self.old.seat desk.old calls desk.new) }
     {
         self.model.update();
         let model = self.model.applied();
@@ -53,7 +54,7 @@ impl State {
     ) -> Result<(), NoMemory>
         requires { out.old.items ≡ [] }
         ensures same { E.name desk.new ≡ E.name desk.old }
-        ensures asks { (reply : replies.Reply) × Acts result (asks self.now (Ask.Status id) reply) self.now self.now out.new.items (E.mine desk.old) (E.mine desk.new) (E.fulls desk.old) (E.fulls desk.new) }
+        ensures asks { (reply : replies.Reply) × Acts result (asks self.now (Ask.Status id) reply) self.now self.now out.new.items (E.mine desk.old) (E.mine desk.new) (E.fulls desk.old) (E.fulls desk.new) (λ calls. WasAsked E.makes self.now.seat desk.old calls desk.new) }
     {
         let reply = desk.ask(alloc, &self.seat, Ask::Status(id));
         append_reply(out, &reply)

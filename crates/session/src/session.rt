@@ -2,11 +2,13 @@
 
 ghost use Rattle.std.specs.Prelude.{◌≡◌, ◌≤◌, length, unwrap_or};
 ghost use Rattle.base_names.specs.Outside.{Rose};
+ghost use Rattle.session.specs.Hearing.{WasAsked};
 ghost use Rattle.session.specs.Step.{Steps};
 ghost use Rattle.session.specs.Transcript.{first_session};
 ghost use Rattle.session.specs.Transcript as transcript;
 ghost use Rattle.wire_text.specs.Commands.{command_of};
 
+use crate::frame::Blocks;
 use crate::state::State;
 use crate::step::Next;
 use base_io::{Sink, Wrote, put};
@@ -21,6 +23,17 @@ pub fn wants(line: &[u8]) -> Option<u32>
     ensures { result ≡ transcript.wants line.now }
 {
     block_len(line)
+}
+
+/// The blocks behind commands.
+pub(crate) struct CommandBlocks;
+
+impl Blocks for CommandBlocks {
+    ghost wants = { transcript.wants };
+
+    fn len_behind(line: &[u8]) -> Option<u32> {
+        wants(line)
+    }
 }
 
 /// A session of a seat. Its answers are written into a buffer that it keeps.
@@ -49,6 +62,13 @@ impl Session {
         }
     }
 
+    /// Whose session it is.
+    pub fn seat(&self) -> &Seat
+        ensures { result.now ≡ self.now.seat }
+    {
+        &self.state.seat
+    }
+
     /// Answers a line with its block, which has as many bytes as [`wants`] gives.
     pub fn step<E: Desk, K: Sink>(
         &mut self,
@@ -62,7 +82,7 @@ impl Session {
         ensures same_desk { E.name desk.new ≡ E.name desk.old }
         ensures same_sink { K.name sink.new ≡ K.name sink.old }
         ensures later { K.faults sink.old ≤ K.faults sink.new }
-        ensures steps { Steps result (command_of line.now) block.now self.old self.new (E.mine desk.old) (E.mine desk.new) (E.fulls desk.old) (E.fulls desk.new) (K.contents sink.old) (K.contents sink.new) }
+        ensures steps { Steps result (command_of line.now) block.now self.old self.new (E.mine desk.old) (E.mine desk.new) (E.fulls desk.old) (E.fulls desk.new) (λ calls. WasAsked E.makes self.old.seat desk.old calls desk.new) (K.contents sink.old) (K.contents sink.new) }
         ensures fault { result ≡ Next.WriteFault → Rose (K.faults sink.old) (K.faults sink.new) }
     {
         self.reply.clear();

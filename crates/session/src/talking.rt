@@ -6,7 +6,7 @@ ghost use Rattle.session.specs.Conversing.{Converses};
 ghost use Rattle.session.specs.Transcript.{first_session};
 
 use crate::frame::{NextFrame, next_frame};
-use crate::session::Session;
+use crate::session::{CommandBlocks, Session};
 use crate::step::Next;
 use base_io::{LineReader, Sink, Source};
 use base_names::Seat;
@@ -71,9 +71,11 @@ fn converse<S: Source, K: Sink, E: Desk>(
     ensures write_fault { result ≡ End.WriteFault → Rose (K.faults sink.old) (K.faults sink.new) }
 {
     loop {
-        let (line, block) = match next_frame(alloc, reader, source) {
+        let (line, block) = match next_frame::<S, CommandBlocks>(alloc, reader, source) {
             Ok(NextFrame::Whole(line, block)) => (line, block),
             Ok(NextFrame::End) => return End::Closed,
+            // a line without its whole block isn't answered
+            Ok(NextFrame::Cut) => return End::Closed,
             Ok(NextFrame::TooLong) => return End::TooLong,
             Ok(NextFrame::ReadFault) => return End::ReadFault,
             Err(_) => return End::NoMemory,

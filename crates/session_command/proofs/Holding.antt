@@ -1,8 +1,7 @@
 -- What holding a session found and did.
-use Rattle.std.proofs.Common.{◌≡◌, ◌≤◌, ℕ, false, IfSome, List, [], ◌++◌, ◌⊎◌, Option, None, inl, inr, refl, sym, ap, subst, ◌∙◌, arith}
+use Rattle.std.proofs.Common.{◌≡◌, ◌≤◌, ℕ, false, IfSome, List, [], ◌++◌, Option, None, refl, sym, ap, subst, ◌∙◌}
 use Rattle.base_io.specs.Held.{Held}
 use Rattle.base_names.specs.declared.seat.Role.{Role}
-use Rattle.base_names.specs.declared.seat.Seat.{Seat}
 use Rattle.cluster_defs.specs.Journal.{Journal}
 use Rattle.cluster_defs.specs.Site as site
 use Rattle.cluster_defs.specs.declared.entry.Entry.{Entry}
@@ -21,28 +20,13 @@ use Rattle.hub_words.specs.Object.{Object}
 use Rattle.journal.specs.Mounting.{HasHeader}
 use Rattle.model_data.specs.declared.batch.BatchBody.{BatchBody}
 use Rattle.model_data.specs.declared.batch.BatchResult.{BatchResult}
-use Rattle.session.specs.Beginning.{at_first}
 use Rattle.session.specs.Conversing.{Converses}
-use Rattle.session.specs.Dialogue.{Told}
-use Rattle.session.specs.Hearing.{Heard, entries_by}
-use Rattle.session.specs.Session.{Call}
-use Rattle.session.specs.Transcript.{session_writing}
-use Rattle.session.specs.Writing.{IsNeeded}
+use Rattle.session.specs.Hearing.{entries_by}
+use Rattle.session.specs.Transcript.{first_session, session_dialogue}
 use Rattle.session.specs.declared.talking.End.{End}
+use Rattle.session.proofs.Firsts.{says_at_first}
 use Rattle.session_command.specs.Held.{SessionSays}
 use Rattle.session_command.specs.OnDisk.{AreFromFile, Disked, first_store, seat_of, session_setup, session_site}
-
--- where nothing was read, nothing was read too early
-session_needed : (seat : Seat) (heard : List Heard) (taken : List ℕ) (told : Told Call) → (taken ≡ []) ⊎ IsNeeded (session_writing seat at_first heard) taken told → IsNeeded (session_writing seat at_first heard) taken told
-session_needed seat heard taken told (inr needed) = needed
-session_needed seat heard taken told (inl none) = record {
-  before = [];
-  last = [];
-  whole = none;
-  short = omega arith;
-  going = refl;
-  answered = (told, refl);
-}
 
 pub session_says : (end : End) (owner : List ℕ) (role : Role) (disk : Disked) (mine mine' : List Entry) (fulls' : ℕ) (left left' contents contents' : Option (List ℕ)) → mine ≡ []
     → Converses end (seat_of owner role) (record { bytes = []; ended = false; given = 0; waiting = None }) mine mine' 0 fulls' left left' contents contents' → AreFromFile disk mine'
@@ -51,13 +35,7 @@ session_says end owner role disk mine mine' fulls' left left' contents contents'
     record {
       heard = c.heard;
       told = c.told;
-      says = record {
-        taken = c.talked.taken;
-        read = c.talked.read;
-        wrote = c.talked.wrote;
-        needed = session_needed (seat_of owner role) c.heard c.talked.taken c.told c.talked.needed;
-        says = c.talked.says;
-      };
+      says = says_at_first session_dialogue (record { session = first_session (seat_of owner role); heard = c.heard }) end c.told left left' contents contents' c.talked;
       from_file = subst (AreFromFile disk) (c.mine_is ∙ ap (λ (entries : List Entry). entries ++ entries_by (seat_of owner role) c.told.deeds) none) from;
     }
 

@@ -1,27 +1,16 @@
 -- What holding a session over a file did, by its end.
 use Rattle.std.specs.Prelude.{ℕ, ◌≡◌, List, Option}
-use Rattle.base_names.specs.Outside.{Reads, Writes}
 use Rattle.base_names.specs.declared.seat.Role.{Role}
 use Rattle.session.specs.Beginning.{at_first}
 use Rattle.session.specs.Dialogue.{Told}
 use Rattle.session.specs.Hearing.{Heard, entries_by}
 use Rattle.session.specs.Session.{Call}
-use Rattle.session.specs.Talk.{EndSays}
+use Rattle.session.specs.Talk.{Says}
 use Rattle.session.specs.Transcript.{session_writing}
-use Rattle.session.specs.Writing.{Writing, IsNeeded}
 use Rattle.session.specs.declared.talking.End.{End}
 use Rattle.session_command.specs.OnDisk.{AreFromFile, Disked, IsRefusedFor, seat_of}
 use Rattle.session_command.specs.declared.command.SessionEnd.{SessionEnd}
 use Rattle.session_command.specs.declared.command.SessionEnd.TheVariants.{Ended, Unopened}
-
--- What was taken from the source and told, its text on the sink. It speaks of the bytes that were taken whether or not the source
--- tells what it has left.
-pub record Says {Deed : Type 0} (end : End) (writing : Writing Deed) (told : Told Deed) (left left' contents contents' : Option (List ℕ)) : Type 0 where
-  pub taken : List ℕ
-  pub read : Reads left left' taken
-  pub wrote : Writes contents contents' told.text
-  pub needed : IsNeeded writing taken told
-  pub says : EndSays end writing taken told left'
 
 -- A session's lines heard what the desk over the file replied, and that there was no memory.
 pub record SessionSays (end : End) (owner : List ℕ) (role : Role) (disk : Disked) (left left' contents contents' : Option (List ℕ)) : Type 0 where

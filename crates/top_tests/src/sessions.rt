@@ -175,7 +175,7 @@ const REFUSED_WORDS: &[&[&str]] = &[
     &["cs_main", "solve", "--nodes", "-1"],
     &["cs_main", "solve", "--nodes", "1000000001"],
     &["cs_main", "verify", "ada"],
-    &["cs_main", "replay"],
+    &["cs_main", "replay", "ada"],
 ];
 
 #[test]

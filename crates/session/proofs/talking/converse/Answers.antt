@@ -1,7 +1,8 @@
 use Rattle.std.proofs.Common.{ℕ, List, length, Ok, refl, sym, ap, arith, ◌∙◌}
 use Rattle.std.specs.Prelude.{unwrap_or}
 use Rattle.session.specs.Transcript.{wants}
-use Rattle.session.proofs.Conversing.{Goes-start, closed, too_long, read_fault, no_frame, goes_next, over, write_fault, no_answer, goes_down}
+use Rattle.session.proofs.Conversing.{Goes-start, closed, cut_short, too_long, read_fault, no_frame, goes_next, over, write_fault, no_answer}
+use Rattle.session.proofs.FrameBytes.{goes_down}
 use Rattle.session.proofs.talking.converse.Goals as goal
 
 pub loop-line-init : goal.loop-line-init
@@ -18,6 +19,11 @@ pub returns-in-Ok-End-clause-converses : goal.returns-in-Ok-End-clause-converses
 returns-in-Ok-End-clause-converses g c =
     let reads = rw c.in-Ok-End.field-0-is at c.in-Ok-End.ensures.reads in
     closed _ _ _ _ _ _ _ _ _ _ _ _ _ _ reads.0 c.loop-line.invariant.goes reads.1 reads.2
+
+pub returns-in-Ok-Cut-clause-converses : goal.returns-in-Ok-Cut-clause-converses
+returns-in-Ok-Cut-clause-converses g c =
+    let reads = rw c.in-Ok-Cut.field-0-is at c.in-Ok-Cut.ensures.reads in
+    cut_short _ _ _ _ _ _ _ _ _ _ _ _ _ _ reads.0 c.loop-line.invariant.goes reads.1 reads.2
 
 pub returns-in-Ok-TooLong-clause-converses : goal.returns-in-Ok-TooLong-clause-converses
 returns-in-Ok-TooLong-clause-converses g c =
@@ -73,4 +79,4 @@ step-requires g c =
 pub loop-line-smaller : goal.loop-line-smaller
 loop-line-smaller g c =
     let reads = rw c.in-Ok-Whole.field-0-is at c.in-Ok-Whole.ensures.reads in
-    goes_down _ _ _ _ _ _ reads.0 reads.1 reads.2
+    goes_down wants _ _ _ _ _ _ reads.0 reads.1 reads.2

@@ -1,5 +1,6 @@
 use Rattle.std.proofs.Common.{◌≡◌, ◌≤◌, ◌-◌, ◌+◌, ◌^◌}
-use Rattle.session.proofs.Conversing.{Goes, waits}
+use Rattle.session.proofs.Conversing.{Goes}
+use Rattle.session.proofs.FrameBytes.{waits}
 use Rattle.session.proofs.talking.converse.Given as goal
 
 abbrev pub invariant-loop-line : goal.invariant-loop-line

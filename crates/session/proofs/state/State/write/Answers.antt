@@ -1,4 +1,4 @@
-use Rattle.std.proofs.Common.{◌≡◌, List, ℕ, inl, ap, ◌∙◌}
+use Rattle.std.proofs.Common.{◌≡◌, inl, ap, ◌∙◌}
 use Rattle.lp_defs.specs.Canonical.{canonical_text}
 use Rattle.model_data.specs.declared.model.Model.{Model}
 use Rattle.session.specs.Session.{Session}

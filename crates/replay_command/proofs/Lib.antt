@@ -1,0 +1,4 @@
+mod Counting
+mod Firsts
+mod Replaying
+mod StepLimits

@@ -1,0 +1,42 @@
+-- What the answer to one line of a script did.
+use Rattle.std.specs.Prelude.{ℕ, ◌≡◌, List, [], ◌∷◌, ◌++◌, Result, Ok, Err}
+use Rattle.base_names.specs.declared.memory.NoMemory.{NoMemory}
+use Rattle.model_data.specs.declared.batch.BatchBody.{BatchBody}
+use Rattle.model_data.specs.declared.batch.BatchResult.{BatchResult}
+use Rattle.session.specs.Dialogue.{Going, Said}
+use Rattle.replay_world.specs.Steps.{Memory}
+use Rattle.replay_world.specs.Views.{IsWhole, view}
+use Rattle.replay_command.specs.Script as script
+use Rattle.replay_command.specs.Script.{Deed, Script, refused}
+use Rattle.replay_command.specs.declared.standing.Answer.{Answer}
+use Rattle.replay_command.specs.declared.standing.Answer.TheVariants.{Next, Refused}
+use Rattle.replay_command.specs.declared.standing.Standing.{Standing}
+use Rattle.replay_command.specs.declared.standing.Standing.TheVariants.{Fresh, Behind}
+
+-- where a script stands
+abbrev pub standing_of : Standing → script.Standing
+standing_of Fresh = script.Fresh
+standing_of (Behind lines world) = script.Behind lines (view world)
+
+-- its world is whole, where it has one
+abbrev pub IsWholeAt : Standing → Type 0
+IsWholeAt Fresh = Unit {0}
+IsWholeAt (Behind lines world) = IsWhole world
+
+-- what is said to a line, whatever batches come to, and by what its step and those to come find of memory
+abbrev pub SaidBy : Type 0
+SaidBy = (BatchBody → BatchResult) → List Memory → Said Script Deed
+
+-- It goes on so behind the line of this number, and this text stands behind what the buffer held.
+pub record GoesOn (line : ℕ) (next : Standing) (said : SaidBy) (out out' : List ℕ) : Type 0 where
+  pub whole : IsWholeAt next
+  pub behind : script.lines_behind (standing_of next) ≡ line
+  pub text : List ℕ
+  pub memory : Memory
+  pub is : (plain : BatchBody → BatchResult) (later : List Memory) → said plain (memory ∷ later) ≡ record { told = record { text = text; deeds = [] }; course = Going (record { standing = standing_of next; memory = later }) }
+  pub wrote : out' ≡ out ++ text
+
+abbrev pub AnswerSays : Result Answer NoMemory → (line : ℕ) → SaidBy → (out out' : List ℕ) → Type 0
+AnswerSays (Ok (Next next)) line said out out' = GoesOn line next said out out'
+AnswerSays (Ok (Refused number)) line said out out' = (plain : BatchBody → BatchResult) (memory : List Memory) → said plain memory ≡ refused number
+AnswerSays (Err _) line said out out' = Unit {0}

@@ -1,0 +1,4 @@
+pub mod Answering
+pub mod Numbering
+pub mod Replayed
+pub mod Script

@@ -1,0 +1,31 @@
+use Rattle.std.proofs.Common.{◌≡◌, ◌∙◌, arith, sym, ap, subst, refl, Some, None}
+use Rattle.desk.specs.Desks.{Held}
+use Rattle.disk_model.specs.ImageLaws.{left_seen}
+use Rattle.disk_model.specs.Memory.{DiskState}
+use Rattle.hub_core.specs.Keeping.{Keeps}
+use Rattle.replay_world.proofs.Opening.{mounted_is, mounting_keeps_one, not_mounted_is}
+use Rattle.replay_world.proofs.machine.Machine.mounted.Goals as goal
+use Rattle.replay_world.specs.Hubs.{hub_of_state, opened}
+use Rattle.replay_world.specs.Views.{KeepsOne}
+
+pub returns-in-Ok-clause-opened : goal.returns-in-Ok-clause-opened
+returns-in-Ok-clause-opened c = λ whole. subst (λ (d : Held DiskState). opened c.args.setup c.args.disk ≡ record { disk = d.hub.disk; hub = Some (hub_of_state d.hub) }) (sym c.new.ensures)
+    (mounted_is c.args.setup c.args.disk c.in-Ok.hub c.in-Ok.ensures.ok (ap (λ (d : Held DiskState). d.hub.disk.refused) (sym c.new.ensures) ∙ whole))
+
+pub returns-else-eq-clause-sound : goal.returns-else-eq-clause-sound
+returns-else-eq-clause-sound c = record {
+  least = c.requires.least;
+  set_up = tt;
+  readable = subst KeepsOne (sym c.into_disk.ensures)
+      (mounting_keeps_one c.args.disk c.in-Err.refused.disk (λ j. c.a_mounting_keeps_the_journal.ensures c.args.disk c.in-Err.refused.disk j) c.in-Err.ensures.err.any_moment c.requires.keeps);
+}
+
+pub returns-else-eq-clause-opened : goal.returns-else-eq-clause-opened
+returns-else-eq-clause-opened c =
+    let file = c.args.disk.stored.bytes in
+    let kept : Keeps c.requires.keeps.0 file = c.requires.keeps.1 file (left_seen c.args.disk.past c.args.disk.stored file refl) in
+    λ whole. subst (λ (d : DiskState). opened c.args.setup c.args.disk ≡ record { disk = d; hub = None }) (sym c.into_disk.ensures)
+    (not_mounted_is c.args.setup c.args.disk c.in-Err.refused c.in-Err.ensures.err (ap (λ (d : DiskState). d.refused) (sym c.into_disk.ensures) ∙ whole)
+    (λ is. absurd (grind (arith, is, c.eq.ensures, c.if-eq.false)))
+    (λ head is. c.an_opening_follows_the_journal.ensures.no_other_file c.args.disk c.args.setup c.in-Err.refused c.requires.keeps.0 file head refl kept c.in-Err.ensures.err is)
+    (λ k is. c.an_opening_follows_the_journal.ensures.no_bad_record c.args.disk c.args.setup c.in-Err.refused c.requires.keeps.0 file k refl kept c.in-Err.ensures.err is))

@@ -1,0 +1,8 @@
+use Rattle.std.proofs.Common.{◌∙◌}
+use Rattle.replay_world.proofs.world.World.stop.Goals as goal
+
+pub halt-requires : goal.halt-requires
+halt-requires c = record {
+  sound = record { least = c.requires.sound.least; set_up = c.arm.ensures.set_up c.args.self.setup c.requires.sound.set_up; readable = c.arm.ensures.readable };
+  whole = c.in_ok-arm.ensures.whole ∙ c.requires.whole;
+}
