@@ -2,7 +2,7 @@
 use Rattle.std.proofs.Common.{◌≡◌, ℕ, ◌+◌, ◌-◌, ◌≤◌, List, [], ◌++◌, length, take, drop, ap, sym, ◌∙◌, arith, length-append, length-drop}
 use Rattle.std.specs.Prelude.{slice_range}
 use Rattle.std.proofs.Math.Seq.{take-append-add}
-use Rattle.std.proofs.lemmas.List.{append-nil, take_at, drop-drop, drop-append-le, drop_all, length-take-le, take-take}
+use Rattle.std.proofs.lemmas.List.{append-nil, take_at, drop-drop, drop-append-le, drop_all, length-take-le}
 use Rattle.std.proofs.lemmas.Slice.{between_is}
 use borrow.Rule.Slice.PartMut.{post_of}
 
@@ -36,8 +36,3 @@ written_is bytes old new end len same all high some =
 pub keep_range : (written bytes new : List ℕ) (start end : ℕ) → end ≤ length bytes → written ≡ take end bytes ++ new → slice_range written start end ≡ slice_range bytes start end
 keep_range written bytes new start end high is =
     between_is written start end ∙ (ap (λ (l : List ℕ). drop start (take end l)) is ∙ (ap (drop start) (take_at (take end bytes) new end (length-take-le end bytes high)) ∙ sym (between_is bytes start end)))
-
--- the same part, moved to the front of bytes that were cut behind it
-pub front_range : (written moved bytes : List ℕ) (start end usual : ℕ) → end - start ≤ usual → written ≡ take usual moved → take (end - start) moved ≡ slice_range bytes start end → slice_range written 0 (end - start) ≡ slice_range bytes start end
-front_range written moved bytes start end usual low is front =
-    between_is written 0 (end - start) ∙ (ap (take (end - start)) is ∙ (take-take (end - start) usual moved low ∙ front))

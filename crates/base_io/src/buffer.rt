@@ -65,36 +65,35 @@ impl Buffer {
         self.start += n;
     }
 
-    /// Gives back the memory that a long block took.
-    pub fn shrink(&mut self)
+    /// Moves what is held to the front of the buffer.
+    fn move_to_front(&mut self)
         ensures { self.new.held ≡ self.old.held }
     {
-        let held = self.end - self.start;
-        if self.bytes.len() <= USUAL_LEN || held > USUAL_LEN {
-            return;
-        }
         self.bytes.copy_within(self.start..self.end, 0);
+        self.end -= self.start;
         self.start = 0;
-        self.end = held;
-        self.bytes.truncate(USUAL_LEN);
-        self.bytes.shrink_to(USUAL_LEN);
     }
 
-    /// Makes room for a read. The buffer grows to twice what is held, and not to what a caller waits for.
+    /// Makes room for a read. The buffer grows to twice what is held, and not to what a caller waits for. The memory that a
+    /// long block took stays, for the next one.
     fn make_room(&mut self) -> Result<(), NoMemory>
         ensures held { self.new.held ≡ self.old.held }
         ensures room { OnOk result (0 < self.new.room) }
     {
-        if self.bytes.len() - self.end >= READ_LEN {
-            return Ok(());
+        if self.is_worth_moving() {
+            self.move_to_front();
         }
-        self.bytes.copy_within(self.start..self.end, 0);
-        self.end -= self.start;
-        self.start = 0;
         if self.bytes.len() - self.end < READ_LEN {
             self.bytes.resize((2 * self.end).max(USUAL_LEN), 0)?;
         }
         Ok(())
+    }
+
+    /// Whether what is held had better stand at the front: there is no room behind it, or it is little beside what was skipped, so
+    /// that a move takes less time than the bytes that it makes room for.
+    fn is_worth_moving(&self) -> bool {
+        self.start > 0
+            && (self.bytes.len() - self.end < READ_LEN || self.end - self.start <= self.start / 16)
     }
 
     /// Reads once, to the end of what is held.

@@ -212,7 +212,6 @@ impl LineReader {
     {
         let bytes = Vec::from_slice(alloc, &self.buffer.held()[..len])?;
         self.buffer.skip(passed);
-        self.buffer.shrink();
         self.given += passed as u64;
         Ok(Piece::Line(Text::of(bytes)))
     }
