@@ -1,3 +1,4 @@
+pub mod Blocks
 pub mod FirstByte
 pub mod Gaps
 pub mod ItemsAhead

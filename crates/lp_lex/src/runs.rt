@@ -2,10 +2,16 @@
 ghost use Rattle.std.specs.Prelude.{◌≡◌, ◌+◌, ◌^◌, ◌<◌, ◌≤◌, ◌⊎◌, [], IfNone, IfSome, IsTrue, drop, length, take_while};
 ghost use Rattle.std.specs.List.{list_all, prefix_len};
 ghost use Rattle.lp_defs.specs.Tokens.{behind_byte, is_run_byte, is_white};
-ghost use Rattle.lp_lex.specs.Runs.{IsMarked, is_simple_byte, run_of};
+ghost use Rattle.lp_lex.specs.Runs.{IsMarked, IsPassed, is_simple_byte, run_of};
 ghost use Rattle.lp_lex.specs.Ahead.{IsGap, IsNext, IsWithin, along, end_ahead, runs_ahead};
 
 use lp_defs::Place;
+
+/// So many bytes of a run are looked at one by one.
+const NEAR_LEN: usize = 16;
+
+/// The bytes behind them are looked at so many at once.
+const BLOCK_LEN: usize = 32;
 
 /// A longest run of bytes that are neither white space nor a comment's.
 #[derive(Clone, Copy)]
@@ -110,15 +116,55 @@ fn front_run(bytes: &[u8]) -> (&[u8], bool)
     (&bytes[..len], len == simple)
 }
 
-/// How many simple bytes stand at the front.
+/// How many simple bytes stand at the front. Most runs are short; what a long one has behind its first bytes is looked at in
+/// blocks.
 fn simple_len(bytes: &[u8]) -> usize
     ensures { result ≡ prefix_len is_simple_byte bytes.now }
 {
-    let mut len = 0;
-    while len < bytes.len() && is_simple_byte(bytes[len]) {
+    let near = simple_before(bytes, 0, bytes.len().min(NEAR_LEN));
+    if near < NEAR_LEN {
+        return near;
+    }
+    simple_before(bytes, behind_blocks(bytes, near), bytes.len())
+}
+
+/// The place behind the simple bytes that stand before the limit, where those before the known place are simple.
+fn simple_before(bytes: &[u8], known: usize, limit: usize) -> usize
+    requires passed { IsPassed bytes.now known }
+    requires in_order { known ≤ limit }
+    requires within { limit ≤ length bytes.now }
+    ensures passed { IsPassed bytes.now result }
+    ensures within { result ≤ limit }
+    ensures stop { result < limit → result ≡ prefix_len is_simple_byte bytes.now }
+{
+    let mut len = known;
+    while len < limit && is_simple_byte(bytes[len]) {
         len += 1;
     }
     len
+}
+
+/// The place behind the blocks of simple bytes that follow one another from the known place on.
+fn behind_blocks(bytes: &[u8], known: usize) -> usize
+    requires { IsPassed bytes.now known }
+    ensures { IsPassed bytes.now result }
+{
+    let mut len = known;
+    while bytes.len() - len >= BLOCK_LEN && are_simple(&bytes[len..len + BLOCK_LEN]) {
+        len += BLOCK_LEN;
+    }
+    len
+}
+
+/// Whether each byte is simple. No byte ends the loop, so that many are looked at at once.
+fn are_simple(bytes: &[u8]) -> bool
+    ensures { result ≡ list_all is_simple_byte bytes.now }
+{
+    let mut all = true;
+    for byte in bytes {
+        all = is_simple_byte(*byte) & all;
+    }
+    all
 }
 
 /// How many bytes of a run stand at the front, so many of which are known.
