@@ -21,6 +21,7 @@ pub enum Kind {
     Binary,
 }
 
+#[derive(Clone)]
 pub struct Var {
     pub name: Vec<u8>,
     pub lower: Option<Frac>,
@@ -35,6 +36,7 @@ pub struct Term {
     pub coef: Frac,
 }
 
+#[derive(Clone)]
 pub struct Row {
     pub name: Vec<u8>,
     pub sense: Sense,
@@ -42,7 +44,7 @@ pub struct Row {
     pub terms: Vec<Term>,
 }
 
-#[derive(Default)]
+#[derive(Clone, Default)]
 pub struct Model {
     pub maximize: bool,
     pub constant: Option<Frac>,

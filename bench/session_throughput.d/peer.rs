@@ -1,7 +1,8 @@
 //! A session in plain Rust, for comparison: what `bench/session_throughput` runs beside the program. It reads a session's
 //! commands and writes their answers, with the reader of `bench/lp` for the texts of models, and proves nothing.
 //!
-//! It knows the commands of that bench: `READ`, `SETVTAG`, `BATCH`, `BSTATUS` and `BYE`.
+//! It knows the commands of that bench: `READ`, `SETVTAG`, `BATCH`, `BSTATUS` and `BYE`. As the program does, it finds names and
+//! tags by tables, and judges a change on a second model, to which the changes of a log are made again after an update.
 #[path = "../frac.d/fraction.rs"]
 #[allow(dead_code)]
 mod fraction;
@@ -13,7 +14,9 @@ mod model;
 #[path = "../lp.d/parser.rs"]
 mod parser;
 
-use model::Model;
+use model::{FastHasher, Model};
+use std::collections::{HashMap, HashSet, VecDeque};
+use std::hash::BuildHasherDefault;
 use std::io::{self, BufRead, Read, Write};
 
 const MAX_TEXT: usize = 1 << 20;
@@ -21,15 +24,75 @@ const MAX_TEXT: usize = 1 << 20;
 /// How many commands of an owner a hub counts and answers.
 const MAX_COMMANDS: u32 = 65_536;
 
+type Hashing = BuildHasherDefault<FastHasher>;
+type Places = HashMap<Vec<u8>, u32, Hashing>;
+
+/// A model with the tags of its variables, in which names and tags are found by tables.
+#[derive(Clone, Default)]
+struct Tagged {
+    /// No command of the bench reads it, nor the rows' names.
+    #[allow(dead_code)]
+    model: Model,
+    /// The tag of each variable.
+    tags: Vec<Option<Vec<u8>>>,
+    vars: Places,
+    #[allow(dead_code)]
+    rows: Places,
+    taken: HashSet<Vec<u8>, Hashing>,
+}
+
+impl Tagged {
+    fn of(model: Model) -> Tagged {
+        let places = |(place, name): (usize, &Vec<u8>)| (name.clone(), place as u32);
+        Tagged {
+            tags: vec![None; model.vars.len()],
+            vars: model.vars.iter().map(|var| &var.name).enumerate().map(places).collect(),
+            rows: model.rows.iter().map(|row| &row.name).enumerate().map(places).collect(),
+            taken: HashSet::default(),
+            model,
+        }
+    }
+
+    fn set_tag(&mut self, change: &TagChange) -> Result<(), &'static [u8]> {
+        let Some(var) = self.vars.get(&change.name) else {
+            return Err(b"ERR 5 NAME\n");
+        };
+        let own = &mut self.tags[*var as usize];
+        let is_own = own.as_ref() == Some(&change.tag);
+        if self.taken.contains(&change.tag) && !is_own {
+            return Err(b"ERR 6 DUPLICATE\n");
+        }
+        if let Some(old) = own.replace(change.tag.clone()) {
+            self.taken.remove(&old);
+        }
+        self.taken.insert(change.tag.clone());
+        Ok(())
+    }
+}
+
+/// A variable is to have the tag.
+struct TagChange {
+    name: Vec<u8>,
+    tag: Vec<u8>,
+}
+
+/// Where the other model stands, by the changes of the log.
+#[derive(Clone, Copy, Default)]
+enum Side {
+    #[default]
+    Apart,
+    Ahead,
+    Behind,
+}
+
 /// What a session holds.
 #[derive(Default)]
 struct Session {
     owner: Vec<u8>,
-    model: Model,
-    /// The tag of each variable.
-    tags: Vec<Option<Vec<u8>>>,
-    /// Tags that wait for the next batch, each with its variable's place.
-    queued: Vec<(usize, Vec<u8>)>,
+    applied: Tagged,
+    other: Tagged,
+    log: VecDeque<TagChange>,
+    side: Side,
     /// The status of each batch.
     batches: Vec<u8>,
     /// The commands that the hub has counted.
@@ -40,30 +103,44 @@ impl Session {
     fn read(&mut self, text: &[u8], output: &mut impl Write) -> io::Result<()> {
         match parser::parse(text) {
             Ok(model) => {
-                self.tags = vec![None; model.vars.len()];
-                self.model = model;
-                self.queued.clear();
+                self.applied = Tagged::of(model);
+                self.other = Tagged::default();
+                self.log.clear();
+                self.side = Side::Apart;
                 output.write_all(b"OK\n")
             }
             Err(fault) => writeln!(output, "ERR 4 MODEL {} {} {:?}", fault.line, fault.column, fault.word),
         }
     }
 
-    /// The tag that the variable has once what is queued is applied.
-    fn tag_of(&self, var: usize) -> Option<&[u8]> {
-        let queued = self.queued.iter().rev().find(|(queued, _)| *queued == var);
-        queued.map(|(_, tag)| &tag[..]).or(self.tags[var].as_deref())
+    fn bring_ahead(&mut self) {
+        match self.side {
+            Side::Apart => self.other = self.applied.clone(),
+            Side::Ahead => {}
+            Side::Behind => {
+                while let Some(change) = self.log.pop_front() {
+                    self.other.set_tag(&change).expect("it was accepted before");
+                }
+            }
+        }
+        self.side = Side::Ahead;
     }
 
     fn set_tag(&mut self, name: &[u8], tag: &[u8]) -> &'static [u8] {
-        let Some(var) = self.model.vars.iter().position(|var| var.name == name) else {
-            return b"ERR 5 NAME\n";
-        };
-        if (0..self.tags.len()).any(|other| other != var && self.tag_of(other) == Some(tag)) {
-            return b"ERR 6 DUPLICATE\n";
+        self.bring_ahead();
+        let change = TagChange { name: name.to_vec(), tag: tag.to_vec() };
+        if let Err(refusal) = self.other.set_tag(&change) {
+            return refusal;
         }
-        self.queued.push((var, tag.to_vec()));
+        self.log.push_back(change);
         b"OK\n"
+    }
+
+    fn update(&mut self) {
+        if let Side::Ahead = self.side {
+            std::mem::swap(&mut self.applied, &mut self.other);
+            self.side = Side::Behind;
+        }
     }
 
     /// Counts a command that asks the hub, or answers that the limit is reached.
@@ -77,10 +154,8 @@ impl Session {
     }
 
     fn batch(&mut self, output: &mut impl Write) -> io::Result<()> {
-        for (var, tag) in self.queued.drain(..) {
-            self.tags[var] = Some(tag);
-        }
-        if self.tags.iter().all(Option::is_none) {
+        self.update();
+        if self.applied.taken.is_empty() {
             return output.write_all(b"ERR 9 NOTAG\n");
         }
         if !self.is_counted(output)? {
