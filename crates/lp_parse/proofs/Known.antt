@@ -1,6 +1,7 @@
 -- What the tables of a draft say of its model.
 use Rattle.std.proofs.Common.{◌≡◌, refl, sym, ◌∙◌, ap, subst, ℕ, ◌≤◌, Bool, true, false, not, ◌||◌, if◌then◌else◌, Some, None}
 use Rattle.std.proofs.Common.{List, [], ◌∷◌, length, map, set, get_or, position, bytes_eq, nat_lt}
+use Rattle.std.specs.Prelude.{string_bytes}
 use Rattle.std.specs.List.{list_any, prefix_len}
 use Rattle.std.proofs.Math.Seq.{map-set_same}
 use Rattle.std.proofs.lemmas.List.{length-set}
@@ -64,7 +65,7 @@ unchanged text change (v ∷ vars) h =
 abbrev pub shown_of : Inside → Unfinished
 shown_of draft = record {
   model = record { direction = draft.direction; constant = draft.constant; vars = draft.vars.items; rows = draft.rows.items };
-  row = record { title = draft.title.items; terms = draft.terms };
+  row = record { title = string_bytes draft.title; terms = draft.terms };
 }
 
 -- what is shown knows the names of the tables

@@ -6,6 +6,7 @@ pub mod Known
 pub mod ObjectiveOf
 pub mod Outcomes
 pub mod Pairs
+pub mod Plain
 pub mod ReadSoFar
 pub mod Tables
 pub mod Zero

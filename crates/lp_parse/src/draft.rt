@@ -15,7 +15,7 @@ use crate::names::Names;
 use crate::quantity::{Limit, unit};
 use crate::symbol::Spot;
 use crate::terms::Terms;
-use base_names::{FaultWord, Name, NoMemory, OrMemory, Seq, write_decimal};
+use base_names::{FaultWord, Name, NoMemory, OrMemory, Seq};
 use frac128::Frac;
 use lp_defs::ModelFault;
 use model_data::{Direction, MAX_ROWS, MAX_TERMS, MAX_VARS, Row, Sense, Var, VarKind};
@@ -34,7 +34,7 @@ pub(crate) struct Draft {
     /// The terms of the whole rows.
     closed_terms: usize,
     /// The name of the row that isn't whole.
-    title: Vec<u8>,
+    title: String,
     /// Its terms so far.
     terms: Terms,
 }
@@ -46,12 +46,12 @@ pub(crate) struct Summand<'a> {
     pub(crate) number_spot: Spot,
     pub(crate) coefficient: Frac,
     pub(crate) name_spot: Spot,
-    pub(crate) name: &'a [u8],
+    pub(crate) name: &'a str,
 }
 
 impl<'a> Summand<'a> {
     /// A term without a number.
-    pub(crate) fn lone(negative: bool, spot: Spot, name: &'a [u8]) -> Summand<'a>
+    pub(crate) fn lone(negative: bool, spot: Spot, name: &'a str) -> Summand<'a>
         ensures { summand_of result ≡ objective.lone_name negative (spot_of spot) name.now }
     {
         Summand {
@@ -67,7 +67,7 @@ impl<'a> Summand<'a> {
         number_spot: Spot,
         coefficient: Frac,
         name_spot: Spot,
-        name: &'a [u8],
+        name: &'a str,
     ) -> Summand<'a>
         ensures { summand_of result ≡ objective.numbered_name (spot_of number_spot) coefficient (spot_of name_spot) name.now }
     {
@@ -81,6 +81,7 @@ impl<'a> Summand<'a> {
 }
 
 impl Model for Draft {
+    ghost use Rattle.std.specs.Prelude.{string_bytes};
     ghost use Rattle.lp_defs.specs.Draft.{Unfinished};
     ghost use Rattle.lp_parse.specs.Draft.{IsSound};
 
@@ -88,7 +89,7 @@ impl Model for Draft {
 
     ghost view = { λ d. record {
       model = record { direction = d.direction; constant = d.constant; vars = d.vars.items; rows = d.rows.items };
-      row = record { title = d.title.items; terms = d.terms };
+      row = record { title = string_bytes d.title; terms = d.terms };
     } };
 
     ghost invariant = { λ d. IsSound d.vars.items d.var_names d.rows.items d.row_names d.closed_terms d.terms };
@@ -107,7 +108,7 @@ impl Draft {
             rows: Vec::new(alloc),
             row_names: Names::new(alloc),
             closed_terms: 0,
-            title: Vec::new(alloc),
+            title: String::new(alloc),
             terms: Terms::new(alloc),
         }
     }
@@ -129,7 +130,7 @@ impl Draft {
         &mut self,
         alloc: Global,
         spot: Spot,
-        name: &[u8],
+        name: &str,
     ) -> Result<(), OrMemory<ModelFault>>
         ensures model { Meets result (λ _. self.new.model) (or_fault (spot_of spot) Size (defs.mention name.now self.old.model)) }
         ensures row { OnOk result (self.new.row ≡ self.old.row) }
@@ -143,7 +144,7 @@ impl Draft {
         &mut self,
         alloc: Global,
         spot: Spot,
-        name: &[u8],
+        name: &str,
         is_known: bool,
     ) -> Result<(), OrMemory<ModelFault>>
         requires { is_known ≡ defs.knows_var name.now self.old.model }
@@ -192,7 +193,7 @@ impl Draft {
     }
 
     /// The objective's coefficient of the variable, 0 where there is none.
-    fn objective_of(&self, name: &[u8]) -> Frac
+    fn objective_of(&self, name: &str) -> Frac
         ensures { result ≡ defs.objective_of_vars name.now self.now.model.vars }
     {
         match self.var_names.place(name) {
@@ -201,7 +202,7 @@ impl Draft {
         }
     }
 
-    fn set_objective(&mut self, name: &[u8], sum: Frac)
+    fn set_objective(&mut self, name: &str, sum: Frac)
         ensures { self.new ≡ record self.old { model = defs.change_var name.now (λ v. record v { obj = sum }) self.old.model } }
     {
         if let Some(place) = self.var_names.place(name) {
@@ -210,7 +211,7 @@ impl Draft {
     }
 
     /// Makes the variable at most, at least or equal to the limit. The other bound stays.
-    pub(crate) fn bound(&mut self, name: &[u8], sense: Sense, limit: Limit, number: &Frac)
+    pub(crate) fn bound(&mut self, name: &str, sense: Sense, limit: Limit, number: &Frac)
         ensures { self.new ≡ record self.old { model = defs.change_var name.now (with_bound sense (limit_of limit number.now)) self.old.model } }
     {
         if let Some(place) = self.var_names.place(name) {
@@ -219,7 +220,7 @@ impl Draft {
     }
 
     /// Takes both bounds of the variable away.
-    pub(crate) fn free(&mut self, name: &[u8])
+    pub(crate) fn free(&mut self, name: &str)
         ensures { self.new ≡ record self.old { model = defs.change_var name.now defs.freed self.old.model } }
     {
         if let Some(place) = self.var_names.place(name) {
@@ -229,7 +230,7 @@ impl Draft {
         }
     }
 
-    pub(crate) fn set_kind(&mut self, name: &[u8], kind: VarKind)
+    pub(crate) fn set_kind(&mut self, name: &str, kind: VarKind)
         ensures { self.new ≡ record self.old { model = defs.change_var name.now (defs.with_kind kind) self.old.model } }
     {
         if let Some(place) = self.var_names.place(name) {
@@ -242,7 +243,7 @@ impl Draft {
         &mut self,
         alloc: Global,
         spot: Spot,
-        title: &[u8],
+        title: &str,
     ) -> Result<(), OrMemory<ModelFault>>
         ensures { Meets result (λ _. self.new) (rows.open_row (spot_of spot) title.now self.old.model) }
     {
@@ -252,7 +253,7 @@ impl Draft {
         if self.rows.len() >= MAX_ROWS {
             return Err(spot.fault(FaultWord::Size));
         }
-        self.title = title.to_vec(alloc)?;
+        self.title = String::from_str(alloc, title)?;
         self.terms.clear();
         Ok(())
     }
@@ -265,9 +266,8 @@ impl Draft {
     ) -> Result<(), OrMemory<ModelFault>>
         ensures { Meets result (λ _. self.new) (rows.open_row (spot_of spot) (defs.default_title self.old.model) self.old.model) }
     {
-        let mut title = b"R".to_vec(alloc)?;
-        title.extend_from_slice(write_decimal(alloc, self.rows.len() as u64)?.as_bytes())?;
-        self.open_row(alloc, spot, title.as_slice())
+        let title = format!(in alloc; "R{}", self.rows.len())?;
+        self.open_row(alloc, spot, title.as_str())
     }
 
     /// Adds a term to the row that isn't whole.
@@ -290,7 +290,7 @@ impl Draft {
     }
 
     /// The place of the variable, or that of the next new one, and whether the model has it.
-    fn find_var(&self, name: &[u8]) -> (u32, bool)
+    fn find_var(&self, name: &str) -> (u32, bool)
         ensures place { result.0 ≡ defs.var_place name.now self.now.model }
         ensures known { result.1 ≡ defs.knows_var name.now self.now.model }
     {
@@ -318,11 +318,11 @@ impl Draft {
     {
         let terms = self.terms.take(alloc)?;
         self.rows.reserve(1)?;
-        self.row_names.add(alloc, self.title.as_slice())?;
-        let title = std::mem::replace(&mut self.title, Vec::new(alloc));
+        self.row_names.add(alloc, self.title.as_str())?;
+        let title = std::mem::replace(&mut self.title, String::new(alloc));
         self.closed_terms += terms.len();
         self.rows.push_reserved(Row {
-            name: Name::of(title),
+            name: Name::of(title.into_bytes()),
             sense,
             rhs,
             terms: Seq::of(terms),
@@ -332,11 +332,11 @@ impl Draft {
 }
 
 /// At least 0, with no term in the objective.
-fn new_var(alloc: Global, name: &[u8]) -> Result<Var, NoMemory>
+fn new_var(alloc: Global, name: &str) -> Result<Var, NoMemory>
     ensures { IfOk result (λ v. v ≡ defs.new_var name.now) }
 {
     Ok(Var {
-        name: Name::of(name.to_vec(alloc)?),
+        name: Name::of(Vec::from_slice(alloc, name.as_bytes())?),
         lower: Some(Frac::zero()),
         upper: None,
         obj: Frac::zero(),

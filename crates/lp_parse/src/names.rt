@@ -11,15 +11,15 @@ use std::marker::Model;
 /// Names in the order of their coming, each of them once.
 #[derive(Drop)]
 pub(crate) struct Names {
-    table: IndexSet<Vec<u8>>,
+    table: IndexSet<String>,
 }
 
 impl Model for Names {
-    ghost use Rattle.std.specs.Prelude.{List, ℕ, map};
+    ghost use Rattle.std.specs.Prelude.{List, ℕ, map, string_bytes};
 
     ghost Value = { List (List ℕ) };
 
-    ghost view = { λ names. map (λ name. name.items) names.table.keys };
+    ghost view = { λ names. map string_bytes names.table.keys };
 }
 
 impl Names {
@@ -32,7 +32,7 @@ impl Names {
     }
 
     /// The place of the name.
-    pub(crate) fn place(&self, name: &[u8]) -> Option<usize>
+    pub(crate) fn place(&self, name: &str) -> Option<usize>
         ensures place { result ≡ position (bytes_eq name.now) self.now }
         ensures found { is_some result ≡ list_any (bytes_eq name.now) self.now }
     {
@@ -40,11 +40,11 @@ impl Names {
     }
 
     /// Adds the name at the end, where it isn't known.
-    pub(crate) fn add(&mut self, alloc: Global, name: &[u8]) -> Result<(), NoMemory>
+    pub(crate) fn add(&mut self, alloc: Global, name: &str) -> Result<(), NoMemory>
         ensures ok { OnOk result (self.new ≡ with_name self.old name.now) }
         ensures unchanged { OnErr result (self.new ≡ self.old) }
     {
-        self.table.insert(name.to_vec(alloc)?)?;
+        self.table.insert(String::from_str(alloc, name)?)?;
         Ok(())
     }
 }

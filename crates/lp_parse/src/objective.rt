@@ -61,7 +61,7 @@ pub(crate) fn after_second_word<'a>(
         SecondWord::That => "that",
     };
     match symbol {
-        Symbol::Name(name) if text.as_bytes().eq_ignore_ascii_case(*name) => Ok(Stage::RowsStart),
+        Symbol::Name(name) if text.eq_ignore_ascii_case(*name) => Ok(Stage::RowsStart),
         _ => Err(spot.fault(FaultWord::Word)),
     }
 }
@@ -162,7 +162,7 @@ pub(crate) fn after_objective_word<'a>(
 pub(crate) fn settle_objective_title(
     alloc: Global,
     title_spot: Spot,
-    title: &[u8],
+    title: &str,
     draft: &mut Draft,
 ) -> Result<(), OrMemory<ModelFault>>
     ensures { Meets result (λ _. draft.new.model) (defs.settle_objective_title (spot_of title_spot) title.now draft.old.model) }
@@ -173,7 +173,7 @@ pub(crate) fn settle_objective_title(
 pub(crate) fn after_objective_title<'a>(
     alloc: Global,
     title_spot: Spot,
-    title: &[u8],
+    title: &str,
     told: &mut Told,
     spot: Spot,
     symbol: &Symbol<'_, '_>,

@@ -1,10 +1,11 @@
 //! A text read token by token.
-ghost use Rattle.std.specs.Prelude.{◌≡◌, ◌^◌, ◌-◌, ◌<◌, ◌≤◌, Err, IfOk, Ok, length, slice_range};
+ghost use Rattle.std.specs.Prelude.{◌≡◌, ◌^◌, ◌-◌, ◌<◌, ◌≤◌, Err, IfOk, IsTrue, Ok, length, slice_range};
 ghost use Rattle.base_names.specs.declared.memory.OrMemory.TheVariants.{Fault};
 ghost use Rattle.lp_defs.specs.declared.fault.ModelFault.{ModelFault};
 ghost use Rattle.lp_defs.specs.Reading as defs;
 ghost use Rattle.lp_defs.specs.Symbols as seen;
 ghost use Rattle.lp_defs.specs.Text.{Spells, Stops};
+ghost use Rattle.lp_defs.specs.Tokens.{is_plain};
 ghost use Rattle.lp_lex.specs.Class.{kind_with};
 ghost use Rattle.model_data.specs.Lawful.{IsLawful};
 ghost use Rattle.lp_parse.specs.Meaning.{spot_of, stage_of, symbol_of};
@@ -69,6 +70,7 @@ fn after_token<'a>(
 ) -> Result<Stage<'a>, OrMemory<ModelFault>>
     requires forward { token.now.start ≤ token.now.end }
     requires in_text { token.now.end ≤ length text.now }
+    requires plain { IsTrue (is_plain (slice_range text.now token.now.start token.now.end)) }
     ensures { Meets result (λ next. stage_of next told.new) (defs.after (stage_of stage.now told.old)
         (record { line = token.now.line; column = token.now.column })
         (seen.symbol_of (kind_with token.now.class value.now) (slice_range text.now token.now.start token.now.end))) }

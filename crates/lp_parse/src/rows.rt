@@ -137,7 +137,7 @@ fn labelled_row<'a>(
     alloc: Global,
     told: &mut Told,
     spot: Spot,
-    label: &[u8],
+    label: &str,
 ) -> Result<Stage<'a>, OrMemory<ModelFault>>
     ensures { Meets result (λ stage. stage_of stage told.new) (defs.labelled_row (spot_of spot) label.now told.old.draft.model) }
 {
@@ -196,7 +196,7 @@ pub(crate) fn after_constraints<'a>(
 pub(crate) fn settle_row_title(
     alloc: Global,
     title_spot: Spot,
-    title: &[u8],
+    title: &str,
     draft: &mut Draft,
 ) -> Result<(), OrMemory<ModelFault>>
     ensures { Meets result (λ _. draft.new) (defs.settle_row_title (spot_of title_spot) title.now draft.old.model) }
@@ -208,7 +208,7 @@ pub(crate) fn settle_row_title(
 pub(crate) fn after_row_title<'a>(
     alloc: Global,
     title_spot: Spot,
-    title: &[u8],
+    title: &str,
     told: &mut Told,
     spot: Spot,
     symbol: &Symbol<'_, '_>,

@@ -50,7 +50,7 @@ pub(crate) fn after_bound<'a>(
 
 /// A name that begins a bound stands before `free` or a comparison.
 pub(crate) fn after_bound_name<'a>(
-    name: &'a [u8],
+    name: &'a str,
     told: &mut Told,
     spot: Spot,
     symbol: &Symbol<'_, '_>,
@@ -71,7 +71,7 @@ pub(crate) fn after_bound_name<'a>(
 fn last_limit<'a>(
     negative: bool,
     sense: Sense,
-    name: &[u8],
+    name: &str,
     told: &mut Told,
     spot: Spot,
     quantity: &Quantity<'_>,
@@ -90,7 +90,7 @@ fn last_limit<'a>(
 pub(crate) fn after_bound_side_sign<'a>(
     negative: bool,
     sense: Sense,
-    name: &[u8],
+    name: &str,
     told: &mut Told,
     spot: Spot,
     symbol: &Symbol<'_, '_>,
@@ -107,7 +107,7 @@ pub(crate) fn after_bound_side_sign<'a>(
 /// Behind a name and a comparison: one sign, or the number.
 pub(crate) fn after_bound_side<'a>(
     sense: Sense,
-    name: &'a [u8],
+    name: &'a str,
     told: &mut Told,
     spot: Spot,
     symbol: &Symbol<'_, '_>,
@@ -184,7 +184,7 @@ pub(crate) fn after_bound_middle<'a>(
 pub(crate) fn after_bound_end<'a>(
     alloc: Global,
     sense: Sense,
-    name: &'a [u8],
+    name: &'a str,
     told: &mut Told,
     spot: Spot,
     symbol: &Symbol<'a, '_>,

@@ -19,7 +19,7 @@ pub(crate) enum Stage<'a> {
     /// Behind the objective word: a label or the first term.
     ObjectiveStart,
     /// A name at the head of the objective: a label where a colon follows, else a term.
-    ObjectiveTitle(Spot, &'a [u8]),
+    ObjectiveTitle(Spot, &'a str),
     /// Behind the label: the first term.
     ObjectiveFirst,
     /// Behind a sign, minus or not: a number or a name.
@@ -35,7 +35,7 @@ pub(crate) enum Stage<'a> {
     /// Behind a row: the same.
     RowsNext,
     /// A name at the head of a row: its label where a colon follows, else the first term's.
-    RowTitle(Spot, &'a [u8]),
+    RowTitle(Spot, &'a str),
     /// Behind a label: the first term or the comparison.
     RowFirst,
     /// Behind a sign: whether it is the first term's, and a minus.
@@ -51,11 +51,11 @@ pub(crate) enum Stage<'a> {
     /// In a section of bounds: a bound, a section or `end`.
     Bounds,
     /// Behind a name: `free` or a comparison.
-    BoundName(&'a [u8]),
+    BoundName(&'a str),
     /// Behind a name and a comparison: a sign or the number.
-    BoundSide(Sense, &'a [u8]),
+    BoundSide(Sense, &'a str),
     /// Behind a sign, minus or not: the number.
-    BoundSideSign(bool, Sense, &'a [u8]),
+    BoundSideSign(bool, Sense, &'a str),
     /// Behind a sign in front of a bound's first number.
     BoundSign(bool),
     /// Behind a bound's first number: a comparison.
@@ -63,7 +63,7 @@ pub(crate) enum Stage<'a> {
     /// Behind a number and a comparison: the name.
     BoundMiddle(Limit, Sense),
     /// Behind a number, a comparison and a name: the same comparison again, or what may follow a bound.
-    BoundEnd(Sense, &'a [u8]),
+    BoundEnd(Sense, &'a str),
     /// In a list of names that are to have the kind: a name, a section or `end`.
     Kinds(VarKind),
     /// Behind `end`.

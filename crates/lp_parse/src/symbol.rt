@@ -1,7 +1,8 @@
 //! What the grammar sees of a token, and where.
-ghost use Rattle.std.specs.Prelude.{◌≡◌, codes};
+ghost use Rattle.std.specs.Prelude.{◌≡◌, IsTrue, codes};
 ghost use Rattle.lp_defs.specs.Kinds.{begins_with, front_of};
 ghost use Rattle.lp_defs.specs.Symbols as seen;
+ghost use Rattle.lp_defs.specs.Tokens.{is_plain};
 ghost use Rattle.lp_lex.specs.Class.{kind_with};
 ghost use Rattle.lp_parse.specs.Meaning.{spot_of, symbol_of};
 
@@ -41,8 +42,8 @@ pub(crate) enum Symbol<'a, 'v> {
     },
     Keyword(SectionWord),
     /// The name before the colon.
-    Label(&'a [u8]),
-    Name(&'a [u8]),
+    Label(&'a str),
+    Name(&'a str),
 }
 
 impl Spot {
@@ -92,12 +93,13 @@ pub(crate) fn fault_of_run(fault: LexFault) -> ModelFault
     }
 }
 
-/// What the grammar sees of a token of the class with this value and these bytes.
+/// What the grammar sees of a token of the class with this value and these bytes, each of which a token may have.
 pub(crate) fn symbol_of<'a, 'v>(
     class: TokenClass,
     value: &'v Frac,
     bytes: &'a [u8],
 ) -> Symbol<'a, 'v>
+    requires { IsTrue (is_plain bytes.now) }
     ensures { symbol_of result ≡ seen.symbol_of (kind_with class value.now) bytes.now }
 {
     match class {
@@ -111,8 +113,8 @@ pub(crate) fn symbol_of<'a, 'v>(
         ),
         TokenClass::Infinite { negative } => number(bytes, Quantity::Infinite { negative }),
         TokenClass::Section(word) => Symbol::Keyword(word),
-        TokenClass::Label => Symbol::Label(front_of(bytes)),
-        TokenClass::Name => Symbol::Name(bytes),
+        TokenClass::Label => Symbol::Label(text_of(front_of(bytes))),
+        TokenClass::Name => Symbol::Name(text_of(bytes)),
     }
 }
 
@@ -132,6 +134,15 @@ fn begins_with_sign(bytes: &[u8]) -> bool
         [byte, ..] => *byte == b'+' || *byte == b'-',
         [] => false,
     }
+}
+
+/// The text of bytes that a token may have, which are ASCII.
+fn text_of(bytes: &[u8]) -> &str
+    requires { IsTrue (is_plain bytes.now) }
+    ensures { result.now ≡ bytes.now }
+{
+    // A name is looked up as a text, and its bytes aren't looked at once more for that.
+    unsafe { str::from_utf8_unchecked(bytes) }
 }
 
 /// The bytes before the last one.

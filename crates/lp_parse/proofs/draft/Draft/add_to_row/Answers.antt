@@ -1,4 +1,4 @@
-use Rattle.std.proofs.Common.{refl, ◌+◌, ap, sym, ◌∙◌, List, length, nat_le, Ok}
+use Rattle.std.proofs.Common.{refl, ◌+◌, ap, sym, ◌∙◌, List, length, nat_le, Ok, string_bytes}
 use Rattle.model_data.specs.Lawful.{term_count}
 use Rattle.model_data.specs.declared.limits.TheConstants.{MAX_TERMS}
 use Rattle.model_data.specs.declared.model.Term.{Term}
@@ -26,7 +26,7 @@ returns c =
     c.coefficient-so_far.ensures
     ∙ ap (coefficient_in c.find_var-var.result.0) (ap (λ (u : Unfinished). u.row.terms) c.self.view_is) in
     let shown = c.self-2.view_is in
-    let row : OpenRow = record { title = c.self-2.inside.title.items; terms = c.set_coefficient.new.self } in
+    let row : OpenRow = record { title = string_bytes c.self-2.inside.title; terms = c.set_coefficient.new.self } in
     let title = ap (λ (u : Unfinished). u.row.title) shown ∙ ap (λ (row : OpenRow). row.title) c.in_ok-mention_if_new.ensures.row in
     let set = c.in_ok-set_coefficient.ensures.ok ∙ ap (λ (u : Unfinished). with_coefficient c.find_var-var.result.0 c.in_ok-sum.sum u.row.terms) shown in
     let terms = set ∙ ap (λ (row : OpenRow). with_coefficient c.find_var-var.result.0 c.in_ok-sum.sum row.terms) c.in_ok-mention_if_new.ensures.row in

@@ -15,7 +15,7 @@ pub invariant_of-self-2 : goal.invariant_of-self-2
 invariant_of-self-2 c =
     let draft = c.self.inside in
     let r : Row = record { name = c.of.result; sense = c.args.sense; rhs = c.args.rhs; terms = c.of-2.result } in
-    let title : c.as_slice.result.now ≡ r.name = search rules in
+    let title : c.as_str.result.now ≡ r.name = search rules in
     let count : length draft.terms ≡ c.len.result = search rules in
     let rows = c.push_reserved.new.self.items in
     let left = c.take.new.self in
