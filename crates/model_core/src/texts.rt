@@ -61,7 +61,7 @@ impl Texts {
         requires { list_any (bytes_eq text.now) self.old.texts ≡ false }
         ensures { OnOk result (self.new.texts ≡ self.old.texts ++ text.now ∷ []) }
     {
-        let text = text.to_vec(alloc)?;
+        let text = Vec::from_slice(alloc, text)?;
         self.reserve()?;
         self.add_reserved(text);
         Ok(())
