@@ -9,7 +9,7 @@ use Rattle.model_core.specs.One.{after, fold, one}
 use Rattle.model_core.specs.declared.change.Change.{Change}
 use Rattle.lazy_model.specs.Log.{AreAccepted, IsBeside, IsLog, queued_of}
 use Rattle.lazy_model.specs.declared.replay.Side.{Side}
-use Rattle.lazy_model.specs.declared.replay.Side.TheVariants.{Ahead, Behind}
+use Rattle.lazy_model.specs.declared.replay.Side.TheVariants.{Ahead, Apart, Behind}
 
 pub fold-push : (m : Model) (changes : List Change) (c : Change) → fold m (changes ++ c ∷ []) ≡ after (fold m changes) c
 fold-push m [] c = refl
@@ -99,11 +99,24 @@ module _ (side : Side) (log : List Change) (applied other : Model) where
   pub beside_behind : side ≡ Behind → IsBeside side log applied other → IsLog log other applied
   beside_behind e h = subst (λ (s : Side). IsBeside s log applied other) e h
 
+  pub beside_apart : side ≡ Apart → IsBeside side log applied other → log ≡ []
+  beside_apart e h = subst (λ (s : Side). IsBeside s log applied other) e h
+
+  pub apart_beside : side ≡ Apart → log ≡ [] → IsBeside side log applied other
+  apart_beside e h = subst (λ (s : Side). IsBeside s log applied other) (sym e) h
+
   pub behind_beside : side ≡ Behind → IsLog log other applied → IsBeside side log applied other
   behind_beside e h = subst (λ (s : Side). IsBeside s log applied other) (sym e) h
 
 pub queued_ahead : (side : Side) (log : List Change) → side ≡ Ahead → queued_of side log ≡ log
 queued_ahead side log e = ap (λ (s : Side). queued_of s log) e
+
+pub queued_apart : (side : Side) (log : List Change) → side ≡ Apart → queued_of side log ≡ []
+queued_apart side log e = ap (λ (s : Side). queued_of s log) e
+
+-- without a change equal models are as far as each other
+pub same_log : (log : List Change) (from to : Model) → log ≡ [] → to ≡ from → IsLog log from to
+same_log log from to e same = subst (λ (l : List Change). IsLog l from to) (sym e) (record { accepted = tt; lawful = tt; leads = sym same })
 
 pub queued_behind : (side : Side) (log : List Change) → side ≡ Behind → queued_of side log ≡ []
 queued_behind side log e = ap (λ (s : Side). queued_of s log) e

@@ -6,7 +6,7 @@ use Rattle.model_core.specs.Asked.{IsLawfulChange}
 use Rattle.model_core.specs.One.{after, fold, one}
 use Rattle.model_core.specs.declared.change.Change.{Change}
 use Rattle.lazy_model.specs.declared.replay.Side.{Side}
-use Rattle.lazy_model.specs.declared.replay.Side.TheVariants.{Ahead, Behind}
+use Rattle.lazy_model.specs.declared.replay.Side.TheVariants.{Ahead, Apart, Behind}
 
 -- each is accepted where it comes
 abbrev pub AreAccepted : Model → List Change → Type 0
@@ -20,10 +20,12 @@ pub record IsLog (log : List Change) (from to : Model) : Type 0 where
 
 -- the changes of the log that aren't applied
 abbrev pub queued_of : Side → List Change → List Change
+queued_of Apart log = []
 queued_of Ahead log = log
 queued_of Behind log = []
 
--- The other model is ahead of the applied one, or behind it, by the log's changes.
+-- The other model is ahead of the applied one, or behind it, by the log's changes; or it is any other one, and the log has none.
 abbrev pub IsBeside : Side → List Change → (applied other : Model) → Type 0
+IsBeside Apart log applied other = log ≡ []
 IsBeside Ahead log applied other = IsLog log applied other
 IsBeside Behind log applied other = IsLog log other applied

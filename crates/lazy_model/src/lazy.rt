@@ -57,23 +57,22 @@ impl LazyModel {
         }
     }
 
-    /// Takes another model, and drops what is queued. It takes time in the size of the model.
+    /// Takes another model, and drops what is queued. It takes time in the size of the model, which is copied at the first change.
     pub fn load(&mut self, alloc: Global, model: model_data::Model) -> Result<LoadDone, NoMemory>
         requires { IsLawful model }
         ensures ok { OnOk result (self.new ≡ record { applied = model; queued = [] }) }
         ensures unchanged { OnErr result (self.new ≡ self.old) }
     {
-        let other = IndexedModel::of(alloc, model.copy(alloc)?)?;
-        let applied = IndexedModel::of(alloc, model)?;
-        self.applied = applied;
-        self.other = other;
+        self.applied = IndexedModel::of(alloc, model)?;
+        self.other = IndexedModel::new(alloc);
         self.log.clear();
-        self.side = Side::Ahead;
+        self.side = Side::Apart;
         Ok(LoadDone)
     }
 
     /// Queues a change where it is accepted on the model after all accepted changes. It is not seen before
-    /// [`update`](LazyModel::update), for which it makes the room. MEMORY beside the refusals of `model_core`'s `apply`.
+    /// [`update`](LazyModel::update), for which it makes the room. The first change of a model that was loaded takes time in the
+    /// size of the model. MEMORY beside the refusals of `model_core`'s `apply`.
     pub fn queue(&mut self, alloc: Global, change: Change) -> Result<(), Refusal>
         requires { IsLawfulChange change }
         ensures accepted { OnOk result (IsOk (one (latest self.old) change)) }
@@ -98,7 +97,7 @@ impl LazyModel {
         ensures applied { self.new ≡ record { applied = latest self.old; queued = [] } }
     {
         match self.side {
-            Side::Behind => 0,
+            Side::Apart | Side::Behind => 0,
             Side::Ahead => {
                 mem::swap(&mut self.applied, &mut self.other);
                 self.side = Side::Behind;
@@ -121,7 +120,7 @@ impl LazyModel {
         ensures { result ≡ length self.now.queued }
     {
         match self.side {
-            Side::Behind => 0,
+            Side::Apart | Side::Behind => 0,
             Side::Ahead => self.log.len() as u64,
         }
     }

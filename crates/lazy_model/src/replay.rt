@@ -13,14 +13,17 @@ use std::collections::VecDeque;
 /// Where the other model stands, by the log's changes.
 #[derive(Clone, Copy, Debug, PartialEq, Eq)]
 pub(crate) enum Side {
+    /// It is no model of these changes, of which there are none.
+    Apart,
     /// It has them, and the applied model lacks them.
     Ahead,
     /// It lacks them, and the applied model has them.
     Behind,
 }
 
-/// Brings the other model ahead of the applied one, where it isn't. Want of memory leaves it behind, by fewer changes.
-#[tactic(auto, using(crate::proofs::Logs::beside_ahead, crate::proofs::Logs::beside_behind, crate::proofs::Logs::behind_beside, crate::proofs::Logs::queued_ahead, crate::proofs::Logs::queued_behind, crate::proofs::Logs::turned))]
+/// Brings the other model ahead of the applied one, where it isn't. Want of memory leaves it apart, or behind by fewer
+/// changes.
+#[tactic(auto, using(crate::proofs::Logs::beside_ahead, crate::proofs::Logs::beside_apart, crate::proofs::Logs::apart_beside, crate::proofs::Logs::queued_apart, crate::proofs::Logs::same_log, crate::proofs::Logs::beside_behind, crate::proofs::Logs::behind_beside, crate::proofs::Logs::queued_ahead, crate::proofs::Logs::queued_behind, crate::proofs::Logs::turned))]
 pub(crate) fn bring_ahead(
     alloc: Global,
     applied: &IndexedModel,
@@ -36,6 +39,10 @@ pub(crate) fn bring_ahead(
     ensures memory { IfErr result (λ r. r ≡ MEMORY) }
 {
     match side {
+        Side::Apart => {
+            *other = applied.copy(alloc)?;
+            Ok(())
+        }
         Side::Ahead => Ok(()),
         Side::Behind => replay(alloc, applied, other, log),
     }
