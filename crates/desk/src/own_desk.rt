@@ -2,10 +2,11 @@
 
 ghost use Rattle.std.specs.Prelude.{◌≡◌, length, OnOk, OnErr};
 ghost use Rattle.cluster_defs.specs.Asking.{is_full};
+ghost use Rattle.cluster_defs.specs.Journal.{table_behind};
 ghost use Rattle.disk_model.specs.Arms.{IsUnmoved};
 ghost use Rattle.disk_model.specs.Memory.{IsLawfulArm};
 ghost use Rattle.hub_core.specs.Standing.{IsStanding};
-ghost use Rattle.hub_core.specs.State.{state_of};
+ghost use Rattle.hub_core.specs.State.{journal_of, state_of};
 
 use base_names::{NoMemory, OwnerLimit, Refusal, Seat};
 use disk_model::{Arm, Armed, Arms, Disk};
@@ -55,6 +56,13 @@ impl<D: Disk> OwnDesk<D> {
         ensures { result ≡ length self.now.hub.store.table.rows }
     {
         self.hub.rows()
+    }
+
+    /// The hub's table is that of the records in its journal.
+    pub fn has_its_table(&self)
+        ensures { self.now.hub.store.table ≡ table_behind (journal_of self.now.hub) }
+    {
+        let _ = &self.hub;
     }
 }
 

@@ -2,6 +2,7 @@
 use Rattle.std.proofs.Common.{◌≡◌, ℕ, ◌+◌, List, [], ◌∷◌, Option, None, Some, refl, sym, ap, subst, ◌∙◌, arith}
 use Rattle.std.specs.Prelude.{option_and_then, unwrap_or}
 use Rattle.base_io.specs.Frames.{Frame, Whole, Cut, TooLong}
+use Rattle.cluster_defs.specs.Journal.{Event}
 use Rattle.hub_core.specs.declared.setup.Limits.{Limits}
 use Rattle.model_data.specs.declared.batch.BatchBody.{BatchBody}
 use Rattle.model_data.specs.declared.batch.BatchResult.{BatchResult}
@@ -9,6 +10,7 @@ use Rattle.script_text.specs.Steps.{command_words, step_of}
 use Rattle.script_text.specs.declared.step.Step.{Step}
 use Rattle.wire_text.specs.Line.{words_of}
 use Rattle.session.specs.Dialogue.{Going, Long, Said, behind, is_going, said, says_nothing, told_nothing}
+use Rattle.replay_world.specs.Events.{step_event}
 use Rattle.replay_world.specs.Steps.{Memory, Stepped, says, stepped}
 use Rattle.replay_world.specs.World.{World, first_world, usual_limits}
 use Rattle.replay_command.specs.Numbering.{IsLineAt}
@@ -17,18 +19,19 @@ use Rattle.replay_command.specs.Script.{Behind, Deed, Fresh, Script, Standing, a
 -- A line is refused, or it goes on behind it.
 data Answered (line : ℕ) (answer : Said Script Deed) : Type 0 where
   no : answer ≡ refused line → Answered line answer
-  yes : (w : World) (later : List Memory) (text : List ℕ) → answer ≡ goes_on line later (says w text) → Answered line answer
+  yes : (w : World) (event : Option Event) (later : List Memory) (text : List ℕ) → answer ≡ goes_on line event later (says w text) → Answered line answer
 
-said_cases : (line : ℕ) (later : List Memory) (found : Option Stepped) → Answered line (said_by line later found)
-said_cases line later None = no refl
-said_cases line later (Some s) = yes s.world later s.text refl
+said_cases : (line : ℕ) (event : Option Event) (later : List Memory) (found : Option Stepped) → Answered line (said_by line event later found)
+said_cases line event later None = no refl
+said_cases line event later (Some s) = yes s.world event later s.text refl
 
 line_cases : (plain : BatchBody → BatchResult) (line : ℕ) (w : World) (found : Option Step) (words : List (List ℕ)) (block : List ℕ) (memory : List Memory) → Answered line (line_said plain line w found words block memory)
-line_cases plain line w found words block memory = said_cases line (memory_later memory) (option_and_then (λ step. stepped plain w step words block (first_memory memory)) found)
+line_cases plain line w found words block memory =
+    said_cases line (option_and_then (λ step. step_event plain w step words block (first_memory memory)) found) (memory_later memory) (option_and_then (λ step. stepped plain w step words block (first_memory memory)) found)
 
 first_cases : (plain : BatchBody → BatchResult) (limits : Option Limits) (found : Option Step) (words : List (List ℕ)) (block : List ℕ) (memory : List Memory) → Answered 1 (first_by plain limits found words block memory)
 first_cases plain None found words block memory = line_cases plain 1 (first_world usual_limits) found words block memory
-first_cases plain (Some limits) found words block memory = yes (first_world limits) (memory_later memory) [] refl
+first_cases plain (Some limits) found words block memory = yes (first_world limits) None (memory_later memory) [] refl
 
 answer_cases : (plain : BatchBody → BatchResult) (standing : Standing) (found : Option Step) (words : List (List ℕ)) (block : List ℕ) (memory : List Memory) → Answered (next_line standing) (answer_in plain standing found words block memory)
 answer_cases plain Fresh found words block memory = first_cases plain (limits_of found) found words block memory
@@ -64,7 +67,7 @@ module _ (plain : BatchBody → BatchResult) where
         counted = let n : next_line script.standing ≡ line = ap (λ (o : Option ℕ). unwrap_or o 0) here in omega (arith, n);
         going = refl;
       }
-  behind_line script frame lines line answer fronts (yes w memory text is) later refuses =
+  behind_line script frame lines line answer fronts (yes w event memory text is) later refuses =
       let next : Script = record { standing = Behind (next_line script.standing) w; memory = memory } in
       let found = later next (subst (λ (a : Said Script Deed). line_of (told_behind a lines).told.deeds ≡ Some line) is refuses) in
       record {

@@ -1,4 +1,6 @@
+mod Believing
 mod Counting
 mod Firsts
+mod Lines
 mod Replaying
 mod StepLimits

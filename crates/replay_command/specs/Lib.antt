@@ -1,4 +1,5 @@
 pub mod Answering
+pub mod Believed
 pub mod Numbering
 pub mod Replayed
 pub mod Script

@@ -1,5 +1,6 @@
 -- What a script writes: a dialogue, step by step. One fold over the lines of the script with their blocks.
-use Rattle.std.specs.Prelude.{ℕ, ◌+◌, List, [], ◌∷◌, Option, Some, None, option_and_then}
+use Rattle.std.specs.Prelude.{ℕ, ◌+◌, List, [], ◌∷◌, Option, Some, None, option_and_then, option_map}
+use Rattle.cluster_defs.specs.Journal.{Event}
 use Rattle.hub_core.specs.declared.setup.Limits.{Limits}
 use Rattle.model_data.specs.declared.batch.BatchBody.{BatchBody}
 use Rattle.model_data.specs.declared.batch.BatchResult.{BatchResult}
@@ -9,7 +10,9 @@ use Rattle.session.specs.Writing.{Writing, writing_by}
 use Rattle.script_text.specs.Steps.{block_wanted, command_words, step_of}
 use Rattle.script_text.specs.declared.step.Step.{Step}
 use Rattle.script_text.specs.declared.step.Step.TheVariants as steps
+use Rattle.table_defs.specs.Table.{Table}
 use Rattle.wire_text.specs.Line.{words_of}
+use Rattle.replay_world.specs.Events.{step_event}
 use Rattle.replay_world.specs.Steps.{Memory, Found, Stepped, says, stepped}
 use Rattle.replay_world.specs.World.{World, first_world, usual_limits}
 
@@ -23,9 +26,15 @@ pub record Script : Type 0 where
   pub standing : Standing
   pub memory : List Memory
 
--- a script that is refused ends with the number of its line
+-- What came of a line. A script that is refused ends with the number of its line. A step that was done tells what it was to the
+-- journal, and the table that is open behind it, where one is.
 pub data Deed : Type 0 where
   RefusedAt : (line : ℕ) → Deed
+  Went : Option Event → Option Table → Deed
+
+-- the table of the open hub
+abbrev pub table_in : World → Option Table
+table_in w = option_map (λ hub. hub.store.table) w.hub
 
 abbrev pub first_memory : List Memory → Memory
 first_memory [] = Found
@@ -38,12 +47,12 @@ memory_later (memory ∷ later) = later
 abbrev pub refused : (line : ℕ) → Said Script Deed
 refused line = record { told = record { text = []; deeds = RefusedAt line ∷ [] }; course = Over }
 
-abbrev pub goes_on : (line : ℕ) → List Memory → Stepped → Said Script Deed
-goes_on line later s = record { told = record { text = s.text; deeds = [] }; course = Going (record { standing = Behind line s.world; memory = later }) }
+abbrev pub goes_on : (line : ℕ) → Option Event → List Memory → Stepped → Said Script Deed
+goes_on line event later s = record { told = record { text = s.text; deeds = Went event (table_in s.world) ∷ [] }; course = Going (record { standing = Behind line s.world; memory = later }) }
 
-abbrev pub said_by : (line : ℕ) → List Memory → Option Stepped → Said Script Deed
-said_by line later None = refused line
-said_by line later (Some s) = goes_on line later s
+abbrev pub said_by : (line : ℕ) → Option Event → List Memory → Option Stepped → Said Script Deed
+said_by line event later None = refused line
+said_by line event later (Some s) = goes_on line event later s
 
 abbrev pub lines_behind : Standing → ℕ
 lines_behind Fresh = 0
@@ -63,11 +72,12 @@ module _ (plain : BatchBody → BatchResult) where
   -- the line of this number, in a world
   abbrev pub line_said : (line : ℕ) → World → Option Step → (words : List (List ℕ)) → (block : List ℕ) → List Memory → Said Script Deed
   line_said line w found words block memory =
-      said_by line (memory_later memory) (option_and_then (λ step. stepped plain w step words block (first_memory memory)) found)
+      said_by line (option_and_then (λ step. step_event plain w step words block (first_memory memory)) found) (memory_later memory)
+      (option_and_then (λ step. stepped plain w step words block (first_memory memory)) found)
 
-  -- The first line may be the limits.
+  -- The first line may be the limits. In the world before it nothing is kept yet.
   abbrev pub first_by : Option Limits → Option Step → (words : List (List ℕ)) → (block : List ℕ) → List Memory → Said Script Deed
-  first_by (Some limits) found words block memory = goes_on 1 (memory_later memory) (says (first_world limits) [])
+  first_by (Some limits) found words block memory = goes_on 1 None (memory_later memory) (says (first_world limits) [])
   first_by None found words block memory = line_said 1 (first_world usual_limits) found words block memory
 
   abbrev pub first_said : Option Step → (words : List (List ℕ)) → (block : List ℕ) → List Memory → Said Script Deed
@@ -98,6 +108,7 @@ module _ (plain : BatchBody → BatchResult) where
 abbrev pub line_of : List Deed → Option ℕ
 line_of [] = None
 line_of (RefusedAt line ∷ deeds) = Some line
+line_of (Went event table ∷ deeds) = line_of deeds
 
 -- the line of an input that is refused, where one is
 abbrev pub refused_line : Writing Deed → (input : List ℕ) → Option ℕ

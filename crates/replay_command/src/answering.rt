@@ -3,8 +3,9 @@
 ghost use Rattle.std.specs.Prelude.{◌≡◌, ◌<◌, ◌+◌, ◌^◌, Ok, Some, length, unwrap_or};
 ghost use Rattle.script_text.specs.Steps.{block_wanted, command_words, step_of};
 ghost use Rattle.wire_text.specs.Line.{words_of};
-ghost use Rattle.replay_world.specs.Views.{IsWhole, view};
-ghost use Rattle.replay_command.specs.Answering.{AnswerSays, IsWholeAt, standing_of};
+ghost use Rattle.cluster_defs.specs.Journal.{none_yet};
+ghost use Rattle.replay_world.specs.Views.{HasJournal, IsWhole, view};
+ghost use Rattle.replay_command.specs.Answering.{AnswerSays, HasJournalAt, IsWholeAt, standing_of};
 ghost use Rattle.replay_command.specs.Script.{answer_to, first_said, limits_of, line_said, lines_behind, next_line};
 
 use crate::standing::{Answer, Standing};
@@ -25,7 +26,7 @@ pub(crate) fn answer(
     requires whole { IsWholeAt standing }
     requires few { lines_behind (standing_of standing) < 2 ^ 40 }
     requires block { length block.now ≡ unwrap_or (block_wanted line.now) 0 }
-    ensures { AnswerSays result (next_line (standing_of standing)) (λ plain memory. answer_to plain (standing_of standing) line.now block.now memory) said.old.items said.new.items }
+    ensures { AnswerSays result (next_line (standing_of standing)) (λ plain memory. answer_to plain (standing_of standing) line.now block.now memory) (λ j. HasJournalAt j standing) said.old.items said.new.items }
 {
     let found = read_step(line);
     match standing {
@@ -44,7 +45,7 @@ fn answer_first(
 ) -> Result<Answer, NoMemory>
     requires found { found.now ≡ step_of (words_of line.now) }
     requires block { length block.now ≡ unwrap_or (block_wanted line.now) 0 }
-    ensures { AnswerSays result 1 (λ plain memory. first_said plain found.now (command_words (words_of line.now)) block.now memory) said.old.items said.new.items }
+    ensures { AnswerSays result 1 (λ plain memory. first_said plain found.now (command_words (words_of line.now)) block.now memory) (λ j. j ≡ none_yet) said.old.items said.new.items }
 {
     match limits_of(found) {
         Some(limits) => Ok(Answer::Next(Standing::Behind(1, World::new(alloc, limits)?))),
@@ -91,7 +92,7 @@ fn answer_in(
     requires whole { IsWhole world }
     requires found { found.now ≡ step_of (words_of line.now) }
     requires block { length block.now ≡ unwrap_or (block_wanted line.now) 0 }
-    ensures { AnswerSays result number (λ plain memory. line_said plain number (view world) found.now (command_words (words_of line.now)) block.now memory) said.old.items said.new.items }
+    ensures { AnswerSays result number (λ plain memory. line_said plain number (view world) found.now (command_words (words_of line.now)) block.now memory) (λ j. HasJournal j world.machine) said.old.items said.new.items }
 {
     let Some(step) = found else {
         return Ok(Answer::Refused(number));

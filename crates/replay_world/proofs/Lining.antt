@@ -26,10 +26,10 @@ remove_set (y ∷ ys) (suc n) x = ap (λ (l : List Session). y ∷ l) (remove_se
 some_same : (x y : Session) → Some x ≡ Some y → x ≡ y
 some_same x y is = cc
 
--- two things of an answer, and what follows from both
-pub ok_both : {A E : Type 0} (r : Result A E) (P Q R : A → Type 0) → IfOk r P → IfOk r Q → ((x : A) → P x → Q x → R x) → IfOk r R
-ok_both (Ok x) P Q R p q both = both x p q
-ok_both (Err e) P Q R p q both = tt
+-- three things of an answer, and what follows from all
+pub ok_all : {A E : Type 0} (r : Result A E) (P Q R S : A → Type 0) → IfOk r P → IfOk r Q → IfOk r R → ((x : A) → P x → Q x → R x → S x) → IfOk r S
+ok_all (Ok x) P Q R S p q r all = all x p q r
+ok_all (Err e) P Q R S p q r all = tt
 
 module _ (number : ℕ) (session : Session) (command : Result Command Refusal) (block : List ℕ) (old new : Held DiskState) (xs : List Session) (place : ℕ) (at : position (sits_at number) xs ≡ Some place) where
   -- it is the seat's session that was at the place

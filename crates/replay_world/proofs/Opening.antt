@@ -36,8 +36,10 @@ use Rattle.hub_core.specs.declared.hub.Hub as hubs
 use Rattle.hub_core.specs.declared.mounting.NoHub.{NoHub}
 use Rattle.hub_core.specs.declared.setup.Setup.{Setup}
 use Rattle.hub_core.proofs.Sound.{standing_keeps}
+use Rattle.replay_world.specs.Events.{opening_event}
 use Rattle.replay_world.specs.Hubs.{Hub, Opened, are_spelled, hub_behind, hub_in, hub_of, hub_of_state, is_journal, opened}
-use Rattle.replay_world.specs.Views.{KeepsOne}
+use Rattle.replay_world.specs.Views.{Continues, HasJournal, KeepsAll, KeepsOne}
+use Rattle.replay_world.specs.declared.machine.Machine.{Machine}
 
 -- ---- a file of records that are spelled
 
@@ -156,8 +158,8 @@ module _ (setup : Setup) (disk : DiskState) (refused : NoHub DiskState)
 -- ---- disks that keep one journal
 
 -- a new disk keeps none yet
-pub new_keeps : KeepsOne new_disk
-new_keeps = (none_yet, λ image is. subst (λ (i : List ℕ). Keeps none_yet i) (sym (nothing image is)) none_kept) where
+pub new_keeps_all : KeepsAll none_yet new_disk
+new_keeps_all = λ image is. subst (λ (i : List ℕ). Keeps none_yet i) (sym (nothing image is)) none_kept where
   nothing : (image : List ℕ) → (image ≡ []) ⊎ (image ≡ []) → image ≡ []
   nothing image (inl is) = is
   nothing image (inr is) = is
@@ -170,20 +172,41 @@ new_keeps = (none_yet, λ image is. subst (λ (i : List ℕ). Keeps none_yet i) 
     taken = record { taken = refl; doubt = refl };
   }
 
--- so does that of a hub
-pub hub_keeps : (h : hubs.Hub DiskState) → IsStanding moment_of left_of (λ s. s.faults) h → KeepsOne h.journal.disk
-hub_keeps h stands = (journal_of (state_of h), λ image is. standing_keeps moment_of left_of (λ s. s.faults) h stands image is)
+pub new_keeps : KeepsOne new_disk
+new_keeps = (none_yet, new_keeps_all)
 
--- and a disk that a stop left
-restarted_keeps_by : (old new : DiskState) (stopped : Option Image) → old.stopped ≡ stopped → new ≡ restarted old → left_of old (moment_of old) new.stored.bytes → (is_some old.stopped ≡ true → Only new.stored.bytes (left_of new (moment_of new))) → KeepsOne old → KeepsOne new
-restarted_keeps_by old new None is restarts left only keeps = subst KeepsOne (sym (restarts ∙ ap (λ (o : Option Image). restarted_by o old) is)) keeps
-restarted_keeps_by old new (Some image) is restarts left only (j, keeps) =
-    (j, λ found here. subst (λ (i : List ℕ). Keeps j i) (sym (only (ap is_some is) found here)) (keeps new.stored.bytes left))
+-- that of a hub keeps its journal
+pub hub_keeps_all : (h : hubs.Hub DiskState) → IsStanding moment_of left_of (λ s. s.faults) h → KeepsAll (journal_of (state_of h)) h.journal.disk
+hub_keeps_all h stands = λ image is. standing_keeps moment_of left_of (λ s. s.faults) h stands image is
+
+pub hub_keeps : (h : hubs.Hub DiskState) → IsStanding moment_of left_of (λ s. s.faults) h → KeepsOne h.journal.disk
+hub_keeps h stands = (journal_of (state_of h), hub_keeps_all h stands)
+
+-- and a disk that a stop left what it kept before
+restarted_keeps_by : (j : Journal) (old new : DiskState) (stopped : Option Image) → old.stopped ≡ stopped → new ≡ restarted old → left_of old (moment_of old) new.stored.bytes → (is_some old.stopped ≡ true → Only new.stored.bytes (left_of new (moment_of new))) → KeepsAll j old → KeepsAll j new
+restarted_keeps_by j old new None is restarts left only keeps = subst (KeepsAll j) (sym (restarts ∙ ap (λ (o : Option Image). restarted_by o old) is)) keeps
+restarted_keeps_by j old new (Some image) is restarts left only keeps =
+    λ found here. subst (λ (i : List ℕ). Keeps j i) (sym (only (ap is_some is) found here)) (keeps new.stored.bytes left)
+
+pub restarted_keeps_all : (j : Journal) (old new : DiskState) → new ≡ restarted old → left_of old (moment_of old) new.stored.bytes → (is_some old.stopped ≡ true → Only new.stored.bytes (left_of new (moment_of new))) → KeepsAll j old → KeepsAll j new
+restarted_keeps_all j old new restarts left only keeps = restarted_keeps_by j old new old.stopped refl restarts left only keeps
 
 pub restarted_keeps : (old new : DiskState) → new ≡ restarted old → left_of old (moment_of old) new.stored.bytes → (is_some old.stopped ≡ true → Only new.stored.bytes (left_of new (moment_of new))) → KeepsOne old → KeepsOne new
-restarted_keeps old new restarts left only keeps = restarted_keeps_by old new old.stopped refl restarts left only keeps
+restarted_keeps old new restarts left only (j, keeps) = (j, restarted_keeps_all j old new restarts left only keeps)
 
 -- and one on which a mounting was tried
+pub mounting_keeps_all : (j : Journal) (old new : DiskState) → (((image : List ℕ) → left_of old (moment_of old) image → Keeps j image) → LeavesOnly moment_of left_of old new (WhileMounting (left_of old (moment_of old))) → LeavesOnly moment_of left_of old new (Keeps j))
+    → LeavesOnly moment_of left_of old new (WhileMounting (left_of old (moment_of old))) → KeepsAll j old → KeepsAll j new
+mounting_keeps_all j old new law run keeps = let kept = law keeps run in λ image is. kept.each (moment_of new) image kept.later (omega arith) is
+
 pub mounting_keeps_one : (old new : DiskState) → ((j : Journal) → ((image : List ℕ) → left_of old (moment_of old) image → Keeps j image) → LeavesOnly moment_of left_of old new (WhileMounting (left_of old (moment_of old))) → LeavesOnly moment_of left_of old new (Keeps j))
     → LeavesOnly moment_of left_of old new (WhileMounting (left_of old (moment_of old))) → KeepsOne old → KeepsOne new
-mounting_keeps_one old new law run (j, keeps) = let kept = law j keeps run in (j, λ image is. kept.each (moment_of new) image kept.later (omega arith) is)
+mounting_keeps_one old new law run (j, keeps) = (j, mounting_keeps_all j old new (law j) run keeps)
+
+none_found : (next : Journal) → (next.records ≡ []) ⊎ (next.records ≡ []) → next.doubt ≡ None → next ≡ none_yet
+none_found next found none = ap₂ (λ (rs : List BatchRecord) (d : Option BatchRecord). let j : Journal = record { records = rs; doubt = d } in j) (elim found [ inl is ↦ is | inr is ↦ is ]) none
+
+-- What is opened where nothing was kept has kept nothing.
+pub first_journal : (m : Machine) (hub : Option Hub) → Continues (Some (opening_event hub)) none_yet m → HasJournal none_yet m
+first_journal m None (next, follows, has) = subst (λ (j : Journal). HasJournal j m) (none_found next (inl follows.1.0) follows.1.1) has
+first_journal m (Some hub) (next, follows, has) = subst (λ (j : Journal). HasJournal j m) (none_found next follows.1.0 follows.1.1) has

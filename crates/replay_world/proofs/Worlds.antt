@@ -1,14 +1,18 @@
 -- Worlds and what steps make of them, by what is known of their parts.
-use Rattle.std.proofs.Common.{◌≡◌, ℕ, Bool, true, false, List, [], ◌∷◌, ◌++◌, Option, None, Some, refl, ap, ◌∙◌, if◌then◌else◌}
+use Rattle.std.proofs.Common.{◌≡◌, ℕ, Bool, true, false, List, [], ◌∷◌, ◌++◌, Option, None, Some, refl, ap, ◌∙◌, arith, if◌then◌else◌}
+use Rattle.std.proofs.lemmas.Bool.Decides.{nat_tests}
 use Rattle.std.specs.Prelude.{◌==◌, codes, is_some}
 use Rattle.base_names.specs.declared.seat.Seat.{Seat}
-use Rattle.disk_model.specs.Memory.{DiskState, armed, restarted}
+use Rattle.cluster_defs.specs.Journal.{Event}
+use Rattle.disk_model.specs.Memory.{DiskState, armed, restarted, with_fail, with_stop}
+use Rattle.disk_model.specs.declared.image.Image.{Image}
 use Rattle.disk_model.specs.declared.image.Arm.{Arm}
 use Rattle.disk_model.specs.declared.image.Arm.TheVariants.{Fail, Stop}
 use Rattle.session.specs.Session.{Session}
 use Rattle.session.specs.Transcript.{first_session}
+use Rattle.replay_world.specs.Events.{opening_event, start_event}
 use Rattle.replay_world.specs.Hubs.{Hub, Opened, opened}
-use Rattle.replay_world.specs.Steps.{Stepped, hung, numbered, opening_text, says, seated, starts, stopped_text, unless_stopped}
+use Rattle.replay_world.specs.Steps.{Stepped, armed_text, hung, numbered, opening_text, says, seated, starts, stopped_text, stops, unless_stopped, with_disk}
 use Rattle.replay_world.specs.World.{World, halted, session_at, without_seat}
 
 -- ---- seats
@@ -71,3 +75,24 @@ pub starts_again : (w : World) (disk : DiskState) (hub : Option Hub) → is_some
 starts_again w disk hub none is =
     ap (λ (b : Bool). let o = opened w.setup (restarted w.disk) in let s : Option Stepped = Some (unless_stopped (says (record w { disk = o.disk; hub = o.hub }) (opening_text o.hub))) in if b then None else s) none
     ∙ ap (λ (o : Opened). let s : Option Stepped = Some (unless_stopped (says (record w { disk = o.disk; hub = o.hub }) (opening_text o.hub))) in s) is
+
+-- what it is to the journal
+pub start_event_open : (w : World) → is_some w.hub ≡ true → start_event w ≡ None
+start_event_open w some = ap (λ (b : Bool). let e : Option Event = Some (opening_event (opened w.setup (restarted w.disk)).hub) in if b then None else e) some
+
+pub start_event_again : (w : World) (disk : DiskState) (hub : Option Hub) → is_some w.hub ≡ false → opened w.setup (restarted w.disk) ≡ record { disk = disk; hub = hub } → start_event w ≡ Some (opening_event hub)
+start_event_again w disk hub none is =
+    ap (λ (b : Bool). let e : Option Event = Some (opening_event (opened w.setup (restarted w.disk)).hub) in if b then None else e) none
+    ∙ ap (λ (o : Opened). let e : Option Event = Some (opening_event o.hub) in e) is
+
+-- ---- what is armed
+
+is_later : (k : ℕ) → (k ≡ 0 → ⊥) → (k == 0) ≡ false
+is_later k later = grind (arith, nat_tests, later)
+
+pub by_fault : (w : World) (k : ℕ) → (k ≡ 0 → ⊥)
+    → (if k == 0 then None else Some (says (with_disk w (with_fail k w.disk)) armed_text)) ≡ Some (says (with_disk w (armed (Fail k) w.disk)) armed_text)
+by_fault w k later = ap (λ (b : Bool). let s : Option Stepped = Some (says (with_disk w (with_fail k w.disk)) armed_text) in if b then None else s) (is_later k later)
+
+pub by_stop : (w : World) (k : ℕ) (image : Image) → (k ≡ 0 → ⊥) → Some (stops w k image) ≡ Some (says (with_disk w (armed (Stop k image) w.disk)) armed_text)
+by_stop w k image later = ap (λ (b : Bool). let v = with_disk w (with_stop k image w.disk) in let s : Option Stepped = Some (if b then says (halted v) stopped_text else says v armed_text) in s) (is_later k later)

@@ -1,4 +1,5 @@
 pub mod Answering
+pub mod Events
 pub mod Hubs
 pub mod Stepping
 pub mod Steps

@@ -1,8 +1,10 @@
 -- What a machine and a world in memory stand for, and what holds of them between two steps.
 use Rattle.std.specs.Prelude.{ℕ, ⊤, ◌≡◌, ◌≤◌, ◌^◌, List, Option, Some, None}
 use Rattle.disk_model.specs.Memory.{DiskState, left_of, moment_of}
-use Rattle.cluster_defs.specs.Journal.{Journal}
+use Rattle.cluster_defs.specs.Journal.{Event, Journal, table_behind}
+use Rattle.hub_core.specs.Answering.{FollowsBy}
 use Rattle.hub_core.specs.Keeping.{Keeps}
+use Rattle.hub_core.specs.State.{journal_of}
 use Rattle.hub_core.specs.declared.setup.Setup.{Setup}
 use Rattle.replay_world.specs.Hubs.{Hub, hub_of_state}
 use Rattle.replay_world.specs.World.{World}
@@ -21,9 +23,13 @@ hub_on (Lying disk) = None
 abbrev pub view : worlds.World → World
 view w = record { setup = w.setup; disk = disk_of w.machine; hub = hub_on w.machine; sessions = w.sessions.items }
 
--- All that a crash may leave of a disk keeps one journal.
+-- All that a crash may leave of a disk keeps this journal.
+abbrev pub KeepsAll : Journal → DiskState → Type 0
+KeepsAll j s = (image : List ℕ) → left_of s (moment_of s) image → Keeps j image
+
+-- It keeps one.
 abbrev pub KeepsOne : DiskState → Type 0
-KeepsOne s = (j : Journal) × ((image : List ℕ) → left_of s (moment_of s) image → Keeps j image)
+KeepsOne s = (j : Journal) × KeepsAll j s
 
 -- A disk that lies keeps a journal; so does that of a hub, always.
 abbrev pub IsReadable : Machine → Type 0
@@ -39,6 +45,23 @@ pub record IsSound (setup : Setup) (machine : Machine) : Type 0 where
   pub least : setup.limits.journal ≤ 10 ^ 12
   pub set_up : IsSetUp setup machine
   pub readable : IsReadable machine
+
+-- This is the journal of a machine's hub, with the table of its records, or the one that its disk keeps.
+abbrev pub HasJournal : Journal → Machine → Type 0
+HasJournal j (Running desk) = (journal_of desk.hub ≡ j) × (desk.hub.store.table ≡ table_behind j)
+HasJournal j (Lying disk) = KeepsAll j disk
+
+-- What was done leads from this journal to that of the machine.
+abbrev pub Continues : Option Event → Journal → Machine → Type 0
+Continues event j machine = (next : Journal) × FollowsBy event j next × HasJournal next machine
+
+-- the same from the journal of the world before
+abbrev pub Leads : Option Event → (old new : worlds.World) → Type 0
+Leads event old new = (j : Journal) → HasJournal j old.machine → Continues event j new.machine
+
+-- It stays that of the world before.
+abbrev pub KeepsJournal : (old new : worlds.World) → Type 0
+KeepsJournal old new = (j : Journal) → HasJournal j old.machine → HasJournal j new.machine
 
 -- No growth of the disk was refused, and the machine is sound.
 pub record IsWhole (w : worlds.World) : Type 0 where

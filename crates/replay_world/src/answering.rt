@@ -8,7 +8,7 @@ ghost use Rattle.wire_text.specs.Line.{words_of};
 ghost use Rattle.replay_world.specs.Answering.{Answered};
 ghost use Rattle.replay_world.specs.Stepping.{StepSays, Took};
 ghost use Rattle.replay_world.specs.Steps.{out_text, says, unless_stopped};
-ghost use Rattle.replay_world.specs.Views.{IsSound, IsWhole, disk_of, view};
+ghost use Rattle.replay_world.specs.Views.{IsSound, IsWhole, KeepsJournal, disk_of, view};
 ghost use Rattle.replay_world.specs.World.{session_at, sits_at};
 
 use crate::machine::Machine;
@@ -34,7 +34,7 @@ impl World {
     ) -> Result<(World, Taken), NoMemory>
         requires whole { IsWhole self }
         requires block { length block.now ≡ unwrap_or (wants line.now) 0 }
-        ensures { IfOk result (λ r. StepSays r.1 (view self) (Step.At number) (words_of line.now) block.now r.0 out.old.items out.new.items) }
+        ensures { IfOk result (λ r. StepSays r.1 self (Step.At number) (words_of line.now) block.now r.0 out.old.items out.new.items) }
     {
         let mut world = self;
         let Some(place) = world.place_of(number) else {
@@ -44,6 +44,7 @@ impl World {
             return Ok((world, Taken::Refused));
         };
         let said = answer(world.alloc, desk, &mut world.sessions, place, line, block)?;
+        desk.has_its_table();
         world.tell(number, said.bytes().as_slice(), out)
     }
 
@@ -52,6 +53,7 @@ impl World {
         requires { IsSound self.setup self.machine }
         ensures whole { IfOk result (λ r. (disk_of self.machine).refused ≡ 0) }
         ensures told { IfOk result (λ r. Took r.1 (Some (unless_stopped (says (view self) (out_text number text.now)))) r.0 out.old.items out.new.items) }
+        ensures journal { IfOk result (λ r. KeepsJournal self r.0) }
     {
         if self.machine.refused() > 0 {
             return Err(NoMemory);

@@ -1,11 +1,13 @@
 //! A machine with its disk.
 
-ghost use Rattle.std.specs.Prelude.{◌≡◌, ◌≤◌, ◌^◌, ◌++◌, is_some, IfOk, OnOk};
+ghost use Rattle.std.specs.Prelude.{◌≡◌, ◌≤◌, ◌^◌, ◌++◌, Some, is_some, IfOk, OnOk};
+ghost use Rattle.cluster_defs.specs.Journal.{Journal};
 ghost use Rattle.disk_model.specs.Memory.{IsLawfulArm, armed, restarted};
 ghost use Rattle.hub_core.specs.declared.setup.Setup as setups;
+ghost use Rattle.replay_world.specs.Events.{opening_event};
 ghost use Rattle.replay_world.specs.Hubs.{opened};
 ghost use Rattle.replay_world.specs.Steps.{opening_text};
-ghost use Rattle.replay_world.specs.Views.{IsReadable, IsSetUp, IsSound, KeepsOne, disk_of, hub_on};
+ghost use Rattle.replay_world.specs.Views.{Continues, HasJournal, IsReadable, IsSetUp, IsSound, KeepsAll, KeepsOne, disk_of, hub_on};
 
 use crate::telling::{append_not_open, append_opened};
 use base_names::NoMemory;
@@ -33,6 +35,7 @@ impl Machine {
         ensures sound { IfOk result (λ m. IsSound setup m) }
         ensures whole { IfOk result (λ m. (disk_of m).refused ≡ 0) }
         ensures opened { IfOk result (λ m. opened setup disk ≡ record { disk = disk_of m; hub = hub_on m }) }
+        ensures journal { IfOk result (λ m. (j : Journal) → KeepsAll j disk → Continues (Some (opening_event (hub_on m))) j m) }
     {
         let machine = Machine::mounted(alloc, disk, setup)?;
         if machine.refused() > 0 {
@@ -47,6 +50,7 @@ impl Machine {
         requires keeps { KeepsOne disk }
         ensures sound { IfOk result (λ m. IsSound setup m) }
         ensures opened { IfOk result (λ m. (disk_of m).refused ≡ 0 → opened setup disk ≡ record { disk = disk_of m; hub = hub_on m }) }
+        ensures journal { IfOk result (λ m. (j : Journal) → KeepsAll j disk → Continues (Some (opening_event (hub_on m))) j m) }
     {
         a_mounting_keeps_the_journal::<MemDisk>();
         an_opening_follows_the_journal::<MemDisk>();
@@ -68,6 +72,7 @@ impl Machine {
         ensures sound { IfOk result (λ m. IsSound setup m) }
         ensures whole { IfOk result (λ m. (disk_of m).refused ≡ 0) }
         ensures opened { IfOk result (λ m. opened setup (restarted disk) ≡ record { disk = disk_of m; hub = hub_on m }) }
+        ensures journal { IfOk result (λ m. (j : Journal) → KeepsAll j disk → Continues (Some (opening_event (hub_on m))) j m) }
     {
         let mut disk = disk;
         disk.after_stop(alloc)?;
@@ -79,6 +84,7 @@ impl Machine {
         requires { IsReadable self }
         ensures disk { result ≡ disk_of self }
         ensures keeps { KeepsOne result }
+        ensures journal { (j : Journal) → HasJournal j self → KeepsAll j result }
     {
         match self {
             Machine::Running(desk) => desk.into_hub().into_disk(),
@@ -94,6 +100,7 @@ impl Machine {
         ensures whole { OnOk result ((disk_of self.new).refused ≡ (disk_of self.old).refused) }
         ensures hub { hub_on self.new ≡ hub_on self.old }
         ensures readable { IsReadable self.new }
+        ensures journal { (j : Journal) → HasJournal j self.old → HasJournal j self.new }
         ensures set_up { (setup : setups.Setup) → IsSetUp setup self.old → IsSetUp setup self.new }
     {
         match self {

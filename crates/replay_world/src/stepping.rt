@@ -3,9 +3,10 @@
 ghost use Rattle.std.specs.Prelude.{◌≡◌, ◌≤◌, length, unwrap_or, is_some, true, IfOk};
 ghost use Rattle.script_text.specs.Steps.{block_of};
 ghost use Rattle.wire_text.specs.Line.{words_of};
+ghost use Rattle.replay_world.specs.Events.{start_event};
 ghost use Rattle.replay_world.specs.Stepping.{StepSays, Took};
 ghost use Rattle.replay_world.specs.Steps.{armed_text, hung, says, seated, starts, stopped_text, stops, with_disk};
-ghost use Rattle.replay_world.specs.Views.{IsSound, IsWhole, disk_of, view};
+ghost use Rattle.replay_world.specs.Views.{IsSound, IsWhole, KeepsJournal, Leads, disk_of, view};
 ghost use Rattle.replay_world.specs.World.{halted};
 ghost use Rattle.disk_model.specs.Memory.{IsLawfulArm, armed};
 ghost use Rattle.std.specs.Prelude.{Some};
@@ -30,10 +31,11 @@ impl World {
     ) -> Result<(World, Taken), NoMemory>
         requires whole { IsWhole self }
         requires block { length block.now ≡ unwrap_or (block_of step.now (words_of line.now)) 0 }
-        ensures { IfOk result (λ r. StepSays r.1 (view self) step.now (words_of line.now) block.now r.0 out.old.items out.new.items) }
+        ensures { IfOk result (λ r. StepSays r.1 self step.now (words_of line.now) block.now r.0 out.old.items out.new.items) }
     {
         match step {
-            Step::Limits { .. } | Step::Fault(0) => Ok((self, Taken::Refused)),
+            Step::Limits { .. } => Ok((self, Taken::Refused)),
+            Step::Fault(0) => Ok((self, Taken::Refused)),
             Step::Seat(number, owner, role) => self.seat(*number, *owner, *role, out),
             Step::At(number) => self.give(*number, line, block, out),
             Step::Hang(number) => self.hang(*number, out),
@@ -53,7 +55,8 @@ impl World {
         out: &mut Vec<u8>,
     ) -> Result<(World, Taken), NoMemory>
         requires { IsWhole self }
-        ensures { IfOk result (λ r. Took r.1 (seated (view self) record { number = number; owner = owner; role = role }) r.0 out.old.items out.new.items) }
+        ensures took { IfOk result (λ r. Took r.1 (seated (view self) record { number = number; owner = owner; role = role }) r.0 out.old.items out.new.items) }
+        ensures journal { IfOk result (λ r. KeepsJournal self r.0) }
     {
         let mut world = self;
         if !world.machine.is_running() {
@@ -75,7 +78,8 @@ impl World {
     /// A session's input ends.
     fn hang(self, number: u8, out: &mut Vec<u8>) -> Result<(World, Taken), NoMemory>
         requires { IsWhole self }
-        ensures { IfOk result (λ r. Took r.1 (hung (view self) number) r.0 out.old.items out.new.items) }
+        ensures took { IfOk result (λ r. Took r.1 (hung (view self) number) r.0 out.old.items out.new.items) }
+        ensures journal { IfOk result (λ r. KeepsJournal self r.0) }
     {
         let mut world = self;
         let Some(place) = world.place_of(number) else {
@@ -90,7 +94,8 @@ impl World {
     /// A stop came: it ends all sessions, and the file isn't open.
     pub(crate) fn halt(self, out: &mut Vec<u8>) -> Result<(World, Taken), NoMemory>
         requires { IsWhole self }
-        ensures { IfOk result (λ r. Took r.1 (Some (says (halted (view self)) stopped_text)) r.0 out.old.items out.new.items) }
+        ensures took { IfOk result (λ r. Took r.1 (Some (says (halted (view self)) stopped_text)) r.0 out.old.items out.new.items) }
+        ensures journal { IfOk result (λ r. KeepsJournal self r.0) }
     {
         let World {
             alloc,
@@ -111,7 +116,8 @@ impl World {
     /// The machine stops.
     fn stop(self, image: Image, out: &mut Vec<u8>) -> Result<(World, Taken), NoMemory>
         requires { IsWhole self }
-        ensures { IfOk result (λ r. Took r.1 (Some (stops (view self) 0 image)) r.0 out.old.items out.new.items) }
+        ensures took { IfOk result (λ r. Took r.1 (Some (stops (view self) 0 image)) r.0 out.old.items out.new.items) }
+        ensures journal { IfOk result (λ r. KeepsJournal self r.0) }
     {
         let mut world = self;
         world.machine.arm(world.alloc, Arm::Stop(0, image))?;
@@ -122,7 +128,8 @@ impl World {
     fn arm(self, arm: Arm, out: &mut Vec<u8>) -> Result<(World, Taken), NoMemory>
         requires whole { IsWhole self }
         requires lawful { IsLawfulArm arm }
-        ensures { IfOk result (λ r. Took r.1 (Some (says (with_disk (view self) (armed arm (disk_of self.machine))) armed_text)) r.0 out.old.items out.new.items) }
+        ensures took { IfOk result (λ r. Took r.1 (Some (says (with_disk (view self) (armed arm (disk_of self.machine))) armed_text)) r.0 out.old.items out.new.items) }
+        ensures journal { IfOk result (λ r. KeepsJournal self r.0) }
     {
         let mut world = self;
         world.machine.arm(world.alloc, arm)?;
@@ -133,7 +140,8 @@ impl World {
     /// The machine starts again, and its file is opened.
     fn open(self, out: &mut Vec<u8>) -> Result<(World, Taken), NoMemory>
         requires { IsWhole self }
-        ensures { IfOk result (λ r. Took r.1 (starts (view self)) r.0 out.old.items out.new.items) }
+        ensures took { IfOk result (λ r. Took r.1 (starts (view self)) r.0 out.old.items out.new.items) }
+        ensures journal { IfOk result (λ r. Leads (start_event (view self)) self r.0) }
     {
         if self.machine.is_running() {
             return Ok((self, Taken::Refused));

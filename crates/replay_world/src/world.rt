@@ -1,7 +1,8 @@
 //! The world of a script between two steps.
 
 ghost use Rattle.std.specs.Prelude.{◌≡◌, ◌≤◌, ◌^◌, position, IfOk};
-ghost use Rattle.replay_world.specs.Views.{IsWhole, view};
+ghost use Rattle.cluster_defs.specs.Journal.{none_yet};
+ghost use Rattle.replay_world.specs.Views.{HasJournal, IsWhole, view};
 ghost use Rattle.replay_world.specs.World.{first_world, setup_of, sits_at};
 
 use crate::machine::Machine;
@@ -38,6 +39,7 @@ impl World {
         requires { limits.journal ≤ 10 ^ 12 }
         ensures whole { IfOk result (λ w. IsWhole w) }
         ensures first { IfOk result (λ w. view w ≡ first_world limits) }
+        ensures journal { IfOk result (λ w. HasJournal none_yet w.machine) }
     {
         let setup = setup_of(limits);
         let machine = Machine::opened(alloc, MemDisk::new(alloc), setup)?;

@@ -9,8 +9,8 @@ pub new-requires : goal.new-requires
 new-requires c = journal_below (words_of c.args.line.now) c.args.found.now c.in-Some.limits c.requires.found (sym c.limits_of.ensures ∙ c.in-Some.is)
 
 pub returns-in_ok-new-in-Some : goal.returns-in_ok-new-in-Some
-returns-in_ok-new-in-Some c = first_goes_on c.in_ok-new-in-Some.field-0 c.in-Some.limits c.args.found.now _ _ _ (sym c.limits_of.ensures ∙ c.in-Some.is) c.in_ok-new-in-Some.ensures.whole c.in_ok-new-in-Some.ensures.first
+returns-in_ok-new-in-Some c = first_goes_on c.in_ok-new-in-Some.field-0 c.in-Some.limits c.args.found.now _ _ _ (sym c.limits_of.ensures ∙ c.in-Some.is) c.in_ok-new-in-Some.ensures.whole c.in_ok-new-in-Some.ensures.first c.in_ok-new-in-Some.ensures.journal
 
 pub returns-in_ok-new-in-None : goal.returns-in_ok-new-in-None
 returns-in_ok-new-in-None c =
-    first_answers c.answer_in.result c.args.found.now c.in_ok-new-in-None.field-0 _ _ _ _ (sym c.limits_of.ensures ∙ c.in-None.is) (c.in_ok-new-in-None.ensures.first ∙ ap first_world c.usual.ensures) c.answer_in.ensures
+    first_answers c.answer_in.result c.args.found.now c.in_ok-new-in-None.field-0 _ _ _ _ (sym c.limits_of.ensures ∙ c.in-None.is) (c.in_ok-new-in-None.ensures.first ∙ ap first_world c.usual.ensures) c.in_ok-new-in-None.ensures.journal c.answer_in.ensures

@@ -5,8 +5,8 @@ use Rattle.replay_world.specs.Hubs.{Hub}
 use Rattle.replay_world.specs.Steps.{Stepped, armed_text, says}
 use Rattle.replay_world.specs.World.{World}
 
-pub returns : goal.returns
-returns c = (
+pub returns-clause-took : goal.returns-clause-took
+returns-clause-took c = (
   record {
     sound = record { least = c.requires.whole.sound.least; set_up = c.arm.ensures.set_up c.args.self.setup c.requires.whole.sound.set_up; readable = c.arm.ensures.readable };
     whole = c.in_ok-arm.ensures.whole ∙ c.requires.whole.whole;

@@ -4,14 +4,14 @@ use Rattle.replay_world.proofs.Seats.{no_session, session_place, without_place}
 use Rattle.replay_world.proofs.Worlds.{hung_at, hung_nobody}
 use Rattle.replay_world.proofs.world.World.hang.Goals as goal
 use Rattle.replay_world.specs.Steps.{hung, numbered, says}
-use Rattle.replay_world.specs.Views.{IsSound, disk_of, hub_on, view}
+use Rattle.replay_world.specs.Views.{HasJournal, IsSound, disk_of, hub_on, view}
 use Rattle.replay_world.specs.declared.machine.Machine.{Machine}
 
-pub returns-in_default : goal.returns-in_default
-returns-in_default c = (hung_nobody (view c.args.self) c.args.number (no_session c.args.number c.args.self.sessions.items (sym c.place_of.ensures ∙ c.in_default.is)), refl)
+pub returns-in_default-clause-took : goal.returns-in_default-clause-took
+returns-in_default-clause-took c = (hung_nobody (view c.args.self) c.args.number (no_session c.args.number c.args.self.sessions.items (sym c.place_of.ensures ∙ c.in_default.is)), refl)
 
-pub returns : goal.returns
-returns c =
+pub returns-clause-took : goal.returns-clause-took
+returns-clause-took c =
     let at = sym c.place_of.ensures ∙ c.in-Some.is in
     let xs = c.args.self.sessions.items in (
       record {
@@ -26,3 +26,6 @@ returns c =
         c.in_ok-append_hung.ensures,
       ),
     )
+
+pub returns-clause-journal : goal.returns-clause-journal
+returns-clause-journal c = λ j has. subst (λ (m : Machine). HasJournal j m) (sym c.hang.ensures) has

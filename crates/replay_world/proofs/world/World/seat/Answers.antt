@@ -10,13 +10,13 @@ use Rattle.replay_world.specs.Steps.{Stepped, numbered, says}
 use Rattle.replay_world.specs.Views.{disk_of, hub_on, view}
 use Rattle.replay_world.specs.World.{World}
 
-pub returns-then-is_some : goal.returns-then-is_some
-returns-then-is_some c =
+pub returns-then-is_some-clause-took : goal.returns-then-is_some-clause-took
+returns-then-is_some-clause-took c =
     let seat : Seat = record { number = c.args.number; owner = c.args.owner; role = c.args.role } in
     (seated_taken (view c.args.self) seat (taken_place c.args.number c.args.self.sessions.items (first_session seat) c.place_of.result (sym c.place_of.ensures) (sym c.is_some.ensures ∙ c.if-is_some.true)), refl)
 
-pub returns : goal.returns
-returns c =
+pub returns-clause-took : goal.returns-clause-took
+returns-clause-took c =
     let seat : Seat = record { number = c.args.number; owner = c.args.owner; role = c.args.role } in
     let xs = c.args.self.sessions.items in
     let runs : is_some (hub_on c.args.self.machine) ≡ true = grind (arith, c.is_running.ensures, c.if-not-is_running.false) in
