@@ -204,6 +204,7 @@ nothing_of_script left contents = λ plain. record {
     says = λ rest may. (_, refl);
   };
   refuses = λ rest may. tt;
+  believed = tt;
 }
 
 -- what was told of a script up to a line that is refused is a front of it
@@ -221,6 +222,7 @@ untold_script line left left' contents contents' says = λ plain.
         says = λ rest may. (told_nothing, told_both-nothing replayed.told ∙ (replayed.says.says rest may).whole);
       };
       refuses = λ rest may. tt;
+      believed = replayed.believed;
     }
 
 -- Nothing was done.
