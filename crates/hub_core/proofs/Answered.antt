@@ -146,8 +146,10 @@ module _ {D : Type 0} (name moment : D → ℕ) (left : D → ℕ → List ℕ �
       doubtful = s.sound.doubtful;
       taken = s.sound.taken;
       table = s.sound.table;
+      end = s.sound.end;
       least = s.sound.least;
       fits = s.sound.fits;
+      doubt_fits = s.sound.doubt_fits;
       history = λ plain. history_more (site_of plain h.setup) (faults h.journal.disk) (state_of h) (s.sound.history plain) (record { seat = seat; ask = ask; reply = reply }, now_at (state_of h)) h.journal.disk (state_of h).bodies (state_of h).doubt
           (record { table = (state_of h).store.table; usage = counted seat.owner false bytes (state_of h).store.usage; journal = (state_of h).store.journal })
           (free_allowed seat ask (site_of plain h.setup) (state_of h).store free) (step plain) (omega arith) (told_steady (says_disk reply) (faults h.journal.disk) quiet.disk)

@@ -1,5 +1,5 @@
 -- What an image of a journal's life recovers to, and how it is kept.
-use Rattle.std.proofs.Common.{◌≡◌, ◌⊎◌, inl, inr, refl, sym, ◌∙◌, ap, subst, ℕ, List, [], ◌∷◌, ◌++◌, map, Option, Some, None}
+use Rattle.std.proofs.Common.{◌≡◌, ◌⊎◌, ◌≤◌, inl, inr, refl, sym, ◌∙◌, ap, subst, ℕ, List, [], ◌∷◌, ◌++◌, map, Option, Some, None}
 use Rattle.std.specs.List.{All}
 use Rattle.std.specs.Option.{option_map, IsSomeAnd}
 use Rattle.std.specs.Prelude.{IfSome, option_to_list}
@@ -7,7 +7,7 @@ use Rattle.cluster_defs.specs.Journal.{AreAllTaken, Journal, table_behind}
 use Rattle.disk_model.proofs.Moments.{weaker}
 use Rattle.disk_model.specs.Moments.{LeavesOnly}
 use Rattle.hub_core.proofs.Lists.{spelled_more, taken_more}
-use Rattle.hub_core.specs.Keeping.{AreSpelled, Keeps, Recovers, RecoversWith, WhileKeeping, doubting}
+use Rattle.hub_core.specs.Keeping.{AreSpelled, Keeps, Recovers, RecoversWith, WhileKeeping, doubting, space_of}
 use Rattle.journal.specs.Mounting.{Mends, WhileMounting}
 use Rattle.journal.specs.Records.{records}
 use Rattle.journal.specs.Standing.{Holds, WhileAdding}
@@ -32,32 +32,33 @@ with_doubt rs (Some d) image lawful doubt_lawful taken longer = record {
   taken = taken;
 }
 
-pub keeps_recovers : HoldsLaw → (j : Journal) (image : List ℕ) → Keeps j image → RecoversWith j image
-keeps_recovers law j image k = elim (law (map record_write j.records) (option_map record_write j.doubt) image k.held) [
+pub keeps_recovers : HoldsLaw → (limit : ℕ) (j : Journal) (image : List ℕ) → Keeps limit j image → RecoversWith j image
+keeps_recovers law limit j image k = elim (law (map record_write j.records) (option_map record_write j.doubt) image k.held) [
   | inl as_is ↦ inl record { spelled = record { written = as_is; lawful = k.lawful }; taken = k.taken.taken }
   | inr longer ↦ inr (with_doubt j.records j.doubt image k.lawful k.doubt_lawful k.taken.doubt longer)
 ]
 
-pub keeps_mended : MendsLaw → (j : Journal) (file image : List ℕ) → Keeps j file → Mends file image → Keeps j image
-keeps_mended law j file image k mends = record {
+pub keeps_mended : MendsLaw → (limit : ℕ) (j : Journal) (file image : List ℕ) → Keeps limit j file → Mends file image → Keeps limit j image
+keeps_mended law limit j file image k mends = record {
   held = law (map record_write j.records) (option_map record_write j.doubt) file image k.held mends;
   lawful = k.lawful;
   doubt_lawful = k.doubt_lawful;
   taken = k.taken;
+  within = k.within;
 }
 
--- while the body of a record is added that is taken
-pub adding_keeps : (j : Journal) (r : BatchRecord) → ((image : List ℕ) → Holds (map record_write j.records) (option_map record_write j.doubt) image → Keeps j image) → IsLawfulRecord r → refusal r (table_behind j) ≡ None → AreTaken j.records no_rows → All IsLawfulRecord j.records
-    → (image : List ℕ) → WhileAdding (map record_write j.records) (option_map record_write j.doubt) (record_write r) image → WhileKeeping j (Some r) image
-adding_keeps j r before lawful takes taken all image adding = elim adding [
+-- while the body of a record is added that is taken and has space
+pub adding_keeps : (limit : ℕ) (j : Journal) (r : BatchRecord) → ((image : List ℕ) → Holds (map record_write j.records) (option_map record_write j.doubt) image → Keeps limit j image) → IsLawfulRecord r → refusal r (table_behind j) ≡ None → AreTaken j.records no_rows → All IsLawfulRecord j.records
+    → space_of j.records ≤ limit → space_of (j.records ++ r ∷ []) ≤ limit → (image : List ℕ) → WhileAdding (map record_write j.records) (option_map record_write j.doubt) (record_write r) image → WhileKeeping limit j (Some r) image
+adding_keeps limit j r before lawful takes taken all fits more image adding = elim adding [
   | inl as_was ↦ inl (before image as_was)
-  | inr new ↦ inr record { held = new; lawful = all; doubt_lawful = lawful; taken = record { taken = taken; doubt = taken_more j.records r taken takes } }
+  | inr new ↦ inr record { held = new; lawful = all; doubt_lawful = lawful; taken = record { taken = taken; doubt = taken_more j.records r taken takes }; within = record { records = fits; doubt = more } }
 ]
 
-pub keeping_recovers : HoldsLaw → (j : Journal) (r : BatchRecord) (image : List ℕ) → WhileKeeping j (Some r) image → Recovers j.records image ⊎ (IsSomeAnd j.doubt (λ d. Recovers (j.records ++ d ∷ []) image) ⊎ Recovers (j.records ++ r ∷ []) image)
-keeping_recovers law j r image (inl before) = elim (keeps_recovers law j image before) [ inl as_is ↦ inl as_is | inr longer ↦ inr (inl longer) ]
-keeping_recovers law j r image (inr new) = elim (keeps_recovers law (doubting j r) image new) [ inl as_is ↦ inl as_is | inr longer ↦ inr (inr longer) ]
+pub keeping_recovers : HoldsLaw → (limit : ℕ) (j : Journal) (r : BatchRecord) (image : List ℕ) → WhileKeeping limit j (Some r) image → Recovers j.records image ⊎ (IsSomeAnd j.doubt (λ d. Recovers (j.records ++ d ∷ []) image) ⊎ Recovers (j.records ++ r ∷ []) image)
+keeping_recovers law limit j r image (inl before) = elim (keeps_recovers law limit j image before) [ inl as_is ↦ inl as_is | inr longer ↦ inr (inl longer) ]
+keeping_recovers law limit j r image (inr new) = elim (keeps_recovers law limit (doubting j r) image new) [ inl as_is ↦ inl as_is | inr longer ↦ inr (inr longer) ]
 
-pub mounting_keeps : MendsLaw → {D : Type 0} (moment : D → ℕ) (left : D → ℕ → List ℕ → Type 0) (old new : D) (j : Journal)
-    → ((image : List ℕ) → left old (moment old) image → Keeps j image) → LeavesOnly moment left old new (WhileMounting (left old (moment old))) → LeavesOnly moment left old new (Keeps j)
-mounting_keeps law moment left old new j all run = weaker moment left old new _ _ (λ image w. keeps_mended law j w.0 image (all w.0 w.1) w.2) run
+pub mounting_keeps : MendsLaw → {D : Type 0} (moment : D → ℕ) (left : D → ℕ → List ℕ → Type 0) (old new : D) (limit : ℕ) (j : Journal)
+    → ((image : List ℕ) → left old (moment old) image → Keeps limit j image) → LeavesOnly moment left old new (WhileMounting (left old (moment old))) → LeavesOnly moment left old new (Keeps limit j)
+mounting_keeps law moment left old new limit j all run = weaker moment left old new _ _ (λ image w. keeps_mended law limit j w.0 image (all w.0 w.1) w.2) run

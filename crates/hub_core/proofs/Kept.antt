@@ -30,8 +30,9 @@ use Rattle.hub_core.proofs.Keeping.{adding_keeps}
 use Rattle.hub_core.proofs.Lists.{after_more, all_spelled_more, nothing_more, read_more, reads, taken_more}
 use Rattle.hub_core.proofs.Sound.{history_more}
 use Rattle.hub_core.proofs.Steps.{free_allowed, new_taken, reserve_more, room_for, step_disk, step_made}
+use Rattle.hub_core.proofs.Within.{end_more, nothing_within, one_more_within, sound_within}
 use Rattle.hub_core.specs.Answering.{Asked, IsCreation, admitted_in, at_limit, creating_refusal, noted_in}
-use Rattle.hub_core.specs.Keeping.{AreSpelled, IsSpelled, Keeps, WhileKeeping, read_all, read_one}
+use Rattle.hub_core.specs.Keeping.{AreSpelled, IsSpelled, Keeps, WhileKeeping, read_all, read_one, space_of}
 use Rattle.hub_core.specs.Noting.{Noted}
 use Rattle.hub_core.specs.Sites.{site_of}
 use Rattle.hub_core.specs.Standing.{IsItsHistory, IsSound, IsStanding}
@@ -71,12 +72,18 @@ module _ (law : OneSpelling batch_record) (fits : (r : BatchRecord) → IsLawful
   takes : refusal new_record (table_behind (journal_of old)) ≡ None
   takes = subst (λ (t : Table). refusal new_record t ≡ None) s.table (new_taken seat.owner 1 body old.store.table)
 
-  keeps_old : (image : List ℕ) → Holds (map record_write (journal_of old).records) (option_map record_write (journal_of old).doubt) image → Keeps (journal_of old) image
-  keeps_old image held = record { held = held; lawful = s.spelled.lawful; doubt_lawful = s.doubtful.lawful; taken = s.taken }
+  fits_old : space_of (journal_of old).records ≤ old.setup.limits.journal
+  fits_old = sound_within (faults old.disk) old s
+
+  fits_more : space_of ((journal_of old).records ++ new_record ∷ []) ≤ old.setup.limits.journal
+  fits_more = one_more_within (faults old.disk) old s new_record (room_for (site_of no_result old.setup) old.store seat body (none no_result))
+
+  keeps_old : (image : List ℕ) → Holds (map record_write (journal_of old).records) (option_map record_write (journal_of old).doubt) image → Keeps old.setup.limits.journal (journal_of old) image
+  keeps_old image held = record { held = held; lawful = s.spelled.lawful; doubt_lawful = s.doubtful.lawful; taken = s.taken; within = record { records = fits_old; doubt = s.doubt_fits } }
 
   -- while the record is added
-  pub appending : LeavesOnly moment left old.disk disk (WhileAdding old.bodies old.doubt (record_write new_record)) → LeavesOnly moment left old.disk disk (WhileKeeping (journal_of old) (Some new_record))
-  appending run = weaker moment left old.disk disk _ _ (adding_keeps (journal_of old) new_record keeps_old lawful takes s.taken.taken s.spelled.lawful)
+  pub appending : LeavesOnly moment left old.disk disk (WhileAdding old.bodies old.doubt (record_write new_record)) → LeavesOnly moment left old.disk disk (WhileKeeping old.setup.limits.journal (journal_of old) (Some new_record))
+  appending run = weaker moment left old.disk disk _ _ (adding_keeps old.setup.limits.journal (journal_of old) new_record keeps_old lawful takes s.taken.taken s.spelled.lawful fits_old fits_more)
       (subst (λ (bodies : List (List ℕ)). LeavesOnly moment left old.disk disk (WhileAdding bodies (option_map record_write (journal_of old).doubt) (record_write new_record))) s.spelled.written
       (subst (λ (doubt : Option (List ℕ)). LeavesOnly moment left old.disk disk (WhileAdding old.bodies doubt (record_write new_record))) s.doubtful.written run))
 
@@ -110,8 +117,10 @@ module _ (law : OneSpelling batch_record) (fits : (r : BatchRecord) → IsLawful
     doubtful = record { written = refl; lawful = tt };
     taken = record { taken = taken_now; doubt = nothing_more (read_all (old.bodies ++ record_write new_record ∷ [])) None refl taken_now };
     table = ap (applied new_record) s.table ∙ (sym (after_more (read_all old.bodies) new_record no_rows) ∙ ap (λ (rs : List BatchRecord). after rs no_rows) (sym more));
+    end = end_more old.bodies (record_write new_record) old.store.journal s.end;
     least = s.least;
     fits = omega (arith, room_for (site_of no_result old.setup) old.store seat body (none no_result));
+    doubt_fits = nothing_within old.setup.limits.journal (read_all (old.bodies ++ record_write new_record ∷ [])) None refl (subst (λ (rs : List BatchRecord). space_of rs ≤ old.setup.limits.journal) (sym more) fits_more);
     history = λ plain. history_more (site_of plain old.setup) (faults old.disk) old (s.history plain) made_entry disk made_state.bodies None made_state.store
         (free_allowed seat (Create body) (site_of plain old.setup) old.store free) (made_step steady plain) (omega arith) (sym steady)
         (journal_of made_state, (more, refl), refl) (faults disk) (omega arith);
@@ -203,14 +212,25 @@ module _ (law : OneSpelling batch_record) (fits : (r : BatchRecord) → IsLawful
       ]
     ]
 
+    fits_doubt : space_of (read_all old.bodies ++ option_to_list (read_one doubt)) ≤ old.setup.limits.journal
+    fits_doubt = elim doubt_is [
+      | inl same ↦ subst (λ (d : Option BatchRecord). space_of (read_all old.bodies ++ option_to_list d) ≤ old.setup.limits.journal) (sym same) s.doubt_fits
+      | inr other ↦ elim other [
+        | inl here ↦ subst (λ (d : Option BatchRecord). space_of (read_all old.bodies ++ option_to_list d) ≤ old.setup.limits.journal) (sym here) fits_more
+        | inr nothing ↦ nothing_within old.setup.limits.journal (read_all old.bodies) (read_one doubt) nothing fits_old
+      ]
+    ]
+
     pub failed_sound : IsSound (faults disk) failed_state
     failed_sound = record {
       spelled = s.spelled;
       doubtful = spelled_doubt;
       taken = record { taken = s.taken.taken; doubt = taken_doubt };
       table = s.table;
+      end = s.end;
       least = s.least;
       fits = s.fits;
+      doubt_fits = fits_doubt;
       history = λ plain. history_more (site_of plain old.setup) (faults old.disk) old (s.history plain) failed_entry disk old.bodies doubt failed_state.store
           (free_allowed seat (Create body) (site_of plain old.setup) old.store free) (failed_step plain) (omega arith) rose
           (journal_of failed_state, (refl, doubt_is), refl) (faults disk) (omega arith);

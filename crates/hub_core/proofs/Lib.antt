@@ -11,3 +11,4 @@ pub mod Noting
 pub mod Sound
 pub mod Steps
 pub mod Usages
+pub mod Within

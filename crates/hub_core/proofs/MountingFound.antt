@@ -1,5 +1,5 @@
 -- What an opening finds in a file that keeps a journal.
-use Rattle.std.proofs.Common.{◌≡◌, ◌⊎◌, inl, inr, refl, sym, ◌∙◌, ap, ap₂, subst, arith, ℕ, zero, suc, ◌<◌, List, [], ◌∷◌, ◌++◌, length, map, take, get_or, Option, Some, None}
+use Rattle.std.proofs.Common.{◌≡◌, ◌⊎◌, inl, inr, refl, sym, ◌∙◌, ap, ap₂, subst, arith, ℕ, zero, suc, ◌<◌, ◌≤◌, ◌-◌, ◌^◌, min, List, [], ◌∷◌, ◌++◌, length, map, take, get_or, Option, Some, None}
 use Rattle.std.specs.List.{All}
 use Rattle.std.specs.Option.{option_map, IsSomeAnd}
 use Rattle.std.specs.Prelude.{IfSome, option_to_list}
@@ -7,11 +7,11 @@ use Rattle.cluster_defs.specs.Journal.{Becomes, Journal, was_opened}
 use Rattle.disk_model.specs.Calls.{DiskCall}
 use Rattle.hub_core.proofs.Keeping.{HoldsLaw, keeps_recovers}
 use Rattle.hub_core.proofs.MountingFold.{AreApart}
-use Rattle.hub_core.specs.Keeping.{Keeps, Recovers, read_one}
+use Rattle.hub_core.specs.Keeping.{Keeps, Recovers, read_one, space_of}
 use Rattle.hub_core.specs.Mounting.{IsBad, IsBadBehind, IsFileFault, IsTooFull, Mounted, NotMounted, sum_of}
 use Rattle.hub_core.specs.State.{journal_of, state_of}
 use Rattle.hub_core.specs.declared.fault.HubFault.{HubFault}
-use Rattle.hub_core.specs.declared.fault.HubFault.TheVariants.{BadRecord, NotAJournal}
+use Rattle.hub_core.specs.declared.fault.HubFault.TheVariants.{BadRecord, NotAJournal, TooFull}
 use Rattle.hub_core.specs.declared.hub.Hub.{Hub}
 use Rattle.hub_core.specs.declared.mounting.NoHub.{NoHub}
 use Rattle.hub_core.specs.declared.setup.Setup.{Setup}
@@ -30,6 +30,9 @@ head_lawful r rs all = all 0 r (omega arith)
 
 tail_lawful : (r : BatchRecord) (rs : List BatchRecord) → All IsLawfulRecord (r ∷ rs) → All IsLawfulRecord rs
 tail_lawful r rs all = λ k d below. all (suc k) d (omega (arith, below))
+
+passes_not : (space most limit sum : ℕ) → space ≤ most → most ≤ limit → sum ≡ min space (2 ^ 64 - 1) → limit < sum → ⊥
+passes_not space most limit sum within less is passes = omega (arith, within, less, is, passes)
 
 module _ (apart : AreApart) where
   -- lawful records of the same spellings
@@ -68,8 +71,8 @@ module _ (apart : AreApart) where
   doubt_not_bad rs None file is n bad = absurd is
   doubt_not_bad rs (Some d) file is n bad = none_bad (rs ++ d ∷ []) file is n bad
 
-  pub never_bad : HoldsLaw → (j : Journal) (file : List ℕ) → Keeps j file → (n : ℕ) → IsBadBehind n (records file) → ⊥
-  never_bad law j file k n bad = elim (keeps_recovers law j file k) [
+  pub never_bad : HoldsLaw → (most : ℕ) (j : Journal) (file : List ℕ) → Keeps most j file → (n : ℕ) → IsBadBehind n (records file) → ⊥
+  never_bad law most j file k n bad = elim (keeps_recovers law most j file k) [
     | inl as_is ↦ none_bad j.records file as_is n bad
     | inr longer ↦ doubt_not_bad j.records j.doubt file longer n bad
   ]
@@ -80,44 +83,56 @@ module _ (apart : AreApart) where
   found_doubt rs found None file none is = absurd none
   found_doubt rs found (Some d) file longer is = one_recovery found (rs ++ d ∷ []) file is longer
 
-  pub finds : HoldsLaw → (j : Journal) (found : List BatchRecord) (file : List ℕ) → Keeps j file → Recovers found file → (found ≡ j.records) ⊎ (found ≡ j.records ++ option_to_list j.doubt)
-  finds law j found file k is = elim (keeps_recovers law j file k) [
+  pub finds : HoldsLaw → (most : ℕ) (j : Journal) (found : List BatchRecord) (file : List ℕ) → Keeps most j file → Recovers found file → (found ≡ j.records) ⊎ (found ≡ j.records ++ option_to_list j.doubt)
+  finds law most j found file k is = elim (keeps_recovers law most j file k) [
     | inl as_is ↦ inl (one_recovery found j.records file is as_is)
     | inr longer ↦ inr (found_doubt j.records found j.doubt file longer is)
   ]
 
   -- where its end and reserve pass the limit, they are those of what it finds
-  pub own_sum : HoldsLaw → (j : Journal) (file : List ℕ) (limit sum : ℕ) → Keeps j file → IsTooFull limit sum (records file) → (limit < sum) × ((sum ≡ sum_of j.records) ⊎ (sum ≡ sum_of (j.records ++ option_to_list j.doubt)))
-  own_sum law j file limit sum k full = (
+  pub own_sum : HoldsLaw → (most : ℕ) (j : Journal) (file : List ℕ) (limit sum : ℕ) → Keeps most j file → IsTooFull limit sum (records file) → (limit < sum) × ((sum ≡ sum_of j.records) ⊎ (sum ≡ sum_of (j.records ++ option_to_list j.doubt)))
+  own_sum law most j file limit sum k full = (
     full.passes,
-    elim (finds law j full.rs file k (record { spelled = full.spelled; taken = full.taken })) [
+    elim (finds law most j full.rs file k (record { spelled = full.spelled; taken = full.taken })) [
       | inl as_is ↦ inl (full.sum_is ∙ ap sum_of as_is)
       | inr longer ↦ inr (full.sum_is ∙ ap sum_of longer)
     ],
   )
 
+  -- and within its limit they never pass it
+  pub never_too_full : HoldsLaw → (most : ℕ) (j : Journal) (file : List ℕ) (limit sum : ℕ) → Keeps most j file → most ≤ limit → IsTooFull limit sum (records file) → ⊥
+  never_too_full law most j file limit sum k less full =
+      let own = own_sum law most j file limit sum k full in
+      elim own.1 [
+        | inl as_is ↦ passes_not (space_of j.records) most limit sum k.within.records less as_is own.0
+        | inr longer ↦ passes_not (space_of (j.records ++ option_to_list j.doubt)) most limit sum k.within.doubt less longer own.0
+      ]
+
 -- the journal's own law of headers
 abbrev pub OpensLaw : Type 0
 OpensLaw = (bodies : List (List ℕ)) (doubt : Option (List ℕ)) (image : List ℕ) → Holds bodies doubt image → HasHeader image
 
-pub never_another : OpensLaw → (j : Journal) (file head : List ℕ) → Keeps j file → 8 < length file → take 8 file ≡ head → (head ≡ header → ⊥) → ⊥
-never_another law j file head k long is other = other (sym is ∙ law (map record_write j.records) (option_map record_write j.doubt) file k.held long)
+pub never_another : OpensLaw → (most : ℕ) (j : Journal) (file head : List ℕ) → Keeps most j file → 8 < length file → take 8 file ≡ head → (head ≡ header → ⊥) → ⊥
+never_another law most j file head k long is other = other (sym is ∙ law (map record_write j.records) (option_map record_write j.doubt) file k.held long)
 
 -- ---- an opening follows the journal
 
 module _ {D : Type 0} (name : D → ℕ) (seen : D → Option (List ℕ)) (moment : D → ℕ) (left : D → ℕ → List ℕ → Type 0) (calls : D → Option (List DiskCall)) (makes : D → DiskCall → D → Type 0) (faults : D → ℕ)
-    (apart : AreApart) (law : HoldsLaw) (disk : D) (setup : Setup) (j : Journal) (file : List ℕ) (told : seen disk ≡ Some file) (keeps : Keeps j file) where
+    (apart : AreApart) (law : HoldsLaw) (disk : D) (setup : Setup) (most : ℕ) (j : Journal) (file : List ℕ) (told : seen disk ≡ Some file) (keeps : Keeps most j file) where
   pub follows : (h : Hub D) → Mounted name seen moment left calls makes faults disk setup h → Becomes was_opened j (journal_of (state_of h))
   follows h m =
       let found : HasHeader file × Recovers (journal_of (state_of h)).records file = subst (λ (o : Option (List ℕ)). IfSome o (λ f. HasHeader f × Recovers (journal_of (state_of h)).records f)) told m.file in
-      (finds apart law j (journal_of (state_of h)).records file keeps found.1, ap read_one m.sure)
+      (finds apart law most j (journal_of (state_of h)).records file keeps found.1, ap read_one m.sure)
 
   module _ (refused : NoHub D) (n : NotMounted name seen moment left calls makes faults disk setup refused) where
     cause : (fault : HubFault) → refused.fault ≡ fault → IsFileFault setup.limits.journal fault file
     cause fault is = subst (λ (f : HubFault). IsFileFault setup.limits.journal f file) is (subst (λ (o : Option (List ℕ)). IfSome o (IsFileFault setup.limits.journal refused.fault)) told n.file)
 
     pub no_other_file : OpensLaw → (head : List ℕ) → refused.fault ≡ NotAJournal head → ⊥
-    no_other_file opens head is = let why = cause (NotAJournal head) is in never_another opens j file head keeps why.0 why.1 why.2
+    no_other_file opens head is = let why = cause (NotAJournal head) is in never_another opens most j file head keeps why.0 why.1 why.2
 
     pub no_bad_record : (number : ℕ) → refused.fault ≡ BadRecord number → ⊥
-    no_bad_record number is = let why = cause (BadRecord number) is in never_bad apart law j file keeps why.1.0 why.1.2
+    no_bad_record number is = let why = cause (BadRecord number) is in never_bad apart law most j file keeps why.1.0 why.1.2
+
+    pub never_refused : most ≤ setup.limits.journal → (sum : ℕ) → refused.fault ≡ TooFull sum → ⊥
+    never_refused less sum is = never_too_full apart law most j file setup.limits.journal sum keeps less (cause (TooFull sum) is).1

@@ -11,6 +11,7 @@ use Rattle.cluster_defs.specs.Store.{Store}
 use Rattle.disk_model.specs.Calls.{DiskCall}
 use Rattle.disk_model.specs.Moments.{LeavesOnly}
 use Rattle.hub_core.proofs.Lists.{nothing_more}
+use Rattle.hub_core.proofs.Within.{nothing_within, spelled_within}
 use Rattle.hub_core.specs.Counting.{usages_in}
 use Rattle.hub_core.specs.Folding.{IsFold, IsOfBodies}
 use Rattle.hub_core.specs.Keeping.{AreSpelled, IsSpelled, Recovers, read_all, read_one}
@@ -83,8 +84,10 @@ module _ {D : Type 0} (faults : ℕ) (s : State D) (sure : s.doubt ≡ None) (st
     doubtful = subst (λ (d : Option (List ℕ)). IsSpelled (read_one d) d) (sym sure) (record { written = refl; lawful = tt });
     taken = record { taken = f.taken; doubt = nothing_more (read_all s.bodies) (read_one s.doubt) (ap read_one sure) f.taken };
     table = f.table;
+    end = end;
     least = least;
     fits = fits;
+    doubt_fits = nothing_within s.setup.limits.journal (read_all s.bodies) (read_one s.doubt) (ap read_one sure) (spelled_within s.setup.limits.journal (read_all s.bodies) s.bodies s.store.table s.store.journal end f.spelled f.table fits);
     history = λ plain. fresh_history plain counted;
   }
 

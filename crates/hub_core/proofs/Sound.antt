@@ -15,6 +15,7 @@ use Rattle.cluster_defs.specs.Store.{Store, Stored}
 use Rattle.disk_model.proofs.Moments.{starts}
 use Rattle.disk_model.specs.Moments.{LeavesOnly}
 use Rattle.hub_core.proofs.Lists.{nothing_more, taken_more}
+use Rattle.hub_core.proofs.Within.{sound_within}
 use Rattle.hub_core.proofs.Noting.{behind_more, brings_more, events_more, faults_more, stored_more}
 use Rattle.hub_core.specs.Keeping.{AreSpelled, IsSpelled, Keeps, WhileKeeping, read_all, read_one}
 use Rattle.hub_core.specs.Noting.{AreStored, IsStoredStep, Noted, event_at, faults_behind, says_disk, store_behind, store_events, stored_at}
@@ -57,8 +58,10 @@ sound_on n m s disk same is = record {
   doubtful = is.doubtful;
   taken = is.taken;
   table = is.table;
+  end = is.end;
   least = is.least;
   fits = is.fits;
+  doubt_fits = is.doubt_fits;
   history = λ plain. let h = is.history plain in record { legal = h.legal; behind = h.behind; brought = h.brought; counted = omega (arith, h.counted, same) };
 }
 
@@ -71,15 +74,16 @@ module _ {D : Type 0} (moment : D → ℕ) (left : D → ℕ → List ℕ → Ty
   }
 
   -- each image that a crash may leave now keeps what the hub's journal says
-  pub standing_keeps : (h : Hub D) → IsStanding moment left faults h → (image : List ℕ) → left h.journal.disk (moment h.journal.disk) image → Keeps (journal_of (state_of h)) image
+  pub standing_keeps : (h : Hub D) → IsStanding moment left faults h → (image : List ℕ) → left h.journal.disk (moment h.journal.disk) image → Keeps h.setup.limits.journal (journal_of (state_of h)) image
   standing_keeps h s image is = record {
     held = subst (λ (bodies : List (List ℕ)). Holds bodies (option_map record_write (journal_of (state_of h)).doubt) image) s.sound.spelled.written
         (subst (λ (doubt : Option (List ℕ)). Holds (bodies_of h.journal) doubt image) s.sound.doubtful.written (standing_holds moment left h.journal image s.journal is));
     lawful = s.sound.spelled.lawful;
     doubt_lawful = s.sound.doubtful.lawful;
     taken = s.sound.taken;
+    within = record { records = sound_within (faults h.journal.disk) (state_of h) s.sound; doubt = s.sound.doubt_fits };
   }
 
-  pub nothing_done : (h : Hub D) → IsStanding moment left faults h → (r : Option BatchRecord) → LeavesOnly moment left h.journal.disk h.journal.disk (WhileKeeping (journal_of (state_of h)) r)
+  pub nothing_done : (h : Hub D) → IsStanding moment left faults h → (r : Option BatchRecord) → LeavesOnly moment left h.journal.disk h.journal.disk (WhileKeeping h.setup.limits.journal (journal_of (state_of h)) r)
   nothing_done h s None = starts moment left h.journal.disk _ (λ image is. standing_keeps h s image is)
   nothing_done h s (Some r) = starts moment left h.journal.disk _ (λ image is. inl (standing_keeps h s image is))

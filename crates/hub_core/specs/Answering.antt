@@ -91,7 +91,7 @@ pub record Asked {D : Type 0} (name : D → ℕ) (moment : D → ℕ) (left : D 
   pub step : is_memory reply ≡ false → IsStoreStep faults old new seat ask reply
   pub memory : is_memory reply ≡ true → new ≡ old
   pub noted : new.history ≡ old.history ++ noted_of seat ask reply (counts_around faults old new)
-  pub any_moment : LeavesOnly moment left old.disk new.disk (WhileKeeping (journal_of old) (asked_record old seat ask))
+  pub any_moment : LeavesOnly moment left old.disk new.disk (WhileKeeping old.setup.limits.journal (journal_of old) (asked_record old seat ask))
   pub ran : RanFor calls makes old new (asked_record old seat ask) reply
   pub doubt : DoubtFor old.doubt new.doubt reply
   pub follows : FollowsBy (asked_event old seat ask reply) (journal_of old) (journal_of new)

@@ -1,10 +1,9 @@
 -- What an opening finds, and why there is none.
-use Rattle.std.specs.Prelude.{◌≡◌, ◌≢◌, ◌≤◌, ◌<◌, ◌+◌, ◌-◌, ◌^◌, min, ℕ, List, [], length, map, take, get_or, Option, None, Some, IfSome}
+use Rattle.std.specs.Prelude.{◌≡◌, ◌≢◌, ◌≤◌, ◌<◌, ◌+◌, ◌-◌, ◌^◌, min, ℕ, List, [], length, take, get_or, Option, None, Some, IfSome}
 use Rattle.base_names.specs.Outside.{Rose}
-use Rattle.cluster_defs.specs.Refusals.{reserve}
 use Rattle.disk_model.specs.Calls.{DiskCall}
 use Rattle.disk_model.specs.Moments.{LeavesOnly}
-use Rattle.hub_core.specs.Keeping.{AreSpelled, Recovers}
+use Rattle.hub_core.specs.Keeping.{AreSpelled, Recovers, space_of}
 use Rattle.hub_core.specs.Standing.{IsStanding}
 use Rattle.hub_core.specs.State.{journal_of, state_of}
 use Rattle.hub_core.specs.declared.fault.HubFault.{HubFault}
@@ -14,7 +13,7 @@ use Rattle.hub_core.specs.declared.mounting.NoHub.{NoHub}
 use Rattle.hub_core.specs.declared.setup.Setup.{Setup}
 use Rattle.journal.specs.Mounting.{HasHeader, RanForFile, WhileMounting}
 use Rattle.journal.specs.Plans.{mount_plan}
-use Rattle.journal.specs.Records.{front, header, records}
+use Rattle.journal.specs.Records.{header, records}
 use Rattle.journal.specs.declared.fault.MountFault.{MountFault}
 use Rattle.journal.specs.declared.fault.MountFault.TheVariants as mounts
 use Rattle.model_data.specs.declared.batch.BatchRecord.{BatchRecord}
@@ -37,7 +36,7 @@ pub record IsBadBehind (n : ℕ) (bodies : List (List ℕ)) : Type 0 where
 
 -- what the end of these records and their reserve come to, at most the end of the type
 abbrev pub sum_of : List BatchRecord → ℕ
-sum_of rs = min (length (front (map record_write rs)) + reserve (after rs no_rows)) (2 ^ 64 - 1)
+sum_of rs = min (space_of rs) (2 ^ 64 - 1)
 
 -- The bodies are those of records that are taken, with an end and a reserve that pass the limit.
 pub record IsTooFull (limit sum : ℕ) (bodies : List (List ℕ)) : Type 0 where

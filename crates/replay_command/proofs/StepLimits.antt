@@ -13,7 +13,7 @@ use Rattle.replay_command.specs.Script.{limits_of}
 
 -- what the journal's limit keeps to
 abbrev pub Ranged : Step → Type 0
-Ranged (Limits commands bytes journal) = journal ≤ 10 ^ 12
+Ranged (Limits commands bytes journal) = (8 ≤ journal) × (journal ≤ 10 ^ 12)
 Ranged step = Unit {0}
 
 abbrev pub IsRanged : Option Step → Type 0
@@ -51,7 +51,7 @@ limits_ranged (first ∷ []) = tt
 limits_ranged (first ∷ second ∷ []) = tt
 limits_ranged (first ∷ second ∷ third ∷ rest) =
     behind_any (no_more rest) _ (λ end. behind_any (number_within 0 (2 ^ 32) first) _ (λ commands. behind_any (number_within 0 (2 ^ 64) second) _ (λ bytes.
-    behind_within LEAST_JOURNAL (MOST_JOURNAL + 1) third _ (λ n low high. omega (arith, high)))))
+    behind_within LEAST_JOURNAL (MOST_JOURNAL + 1) third _ (λ n low high. (omega (arith, low), omega (arith, high))))))
 
 seat_ranged : (words : List (List ℕ)) → IsRanged (seat_step words)
 seat_ranged [] = tt
@@ -97,7 +97,7 @@ step_ranged (word ∷ words) = either (bytes_eq word (codes "AT")) (at_step word
 
 -- ---- a step that a line is
 
-limits_by : (found : Option Step) → IsRanged found → IfSome (limits_of found) (λ limits. limits.journal ≤ 10 ^ 12)
+limits_by : (found : Option Step) → IsRanged found → IfSome (limits_of found) (λ limits. (8 ≤ limits.journal) × (limits.journal ≤ 10 ^ 12))
 limits_by None ranged = tt
 limits_by (Some (Limits commands bytes journal)) ranged = ranged
 limits_by (Some (Fault k)) ranged = tt
@@ -108,10 +108,10 @@ limits_by (Some (Stop k image)) ranged = tt
 limits_by (Some Open) ranged = tt
 
 -- the limits that a line sets
-pub journal_below : (words : List (List ℕ)) (found : Option Step) (limits : Limits') → found ≡ step_of words → limits_of found ≡ Some limits → limits.journal ≤ 10 ^ 12
-journal_below words found limits is sets =
+pub journal_between : (words : List (List ℕ)) (found : Option Step) (limits : Limits') → found ≡ step_of words → limits_of found ≡ Some limits → (8 ≤ limits.journal) × (limits.journal ≤ 10 ^ 12)
+journal_between words found limits is sets =
     let ranged : IsRanged found = subst IsRanged (sym is) (step_ranged words) in
-    subst (λ (l : Option Limits'). IfSome l (λ limits. limits.journal ≤ 10 ^ 12)) sets (limits_by found ranged)
+    subst (λ (l : Option Limits'). IfSome l (λ limits. (8 ≤ limits.journal) × (limits.journal ≤ 10 ^ 12))) sets (limits_by found ranged)
 
 -- it has the block that its line has
 pub is_block : (line command block : List ℕ) (step : Step) → Some step ≡ step_of (words_of line) → words_of command ≡ command_words (words_of line) → length block ≡ unwrap_or (block_wanted line) 0

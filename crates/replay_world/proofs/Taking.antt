@@ -139,7 +139,7 @@ pub leads_on : (event : Option Event) (old new : worlds.World) (mid : Machine) �
 leads_on event old new mid leads keeps = λ j has. let on = leads j has in (on.0, on.1, keeps on.0 on.2)
 
 -- where the machine starts again
-pub leads_by : (old : worlds.World) (m : Machine) → is_some (hub_on old.machine) ≡ false → opened old.setup (restarted (disk_of old.machine)) ≡ record { disk = disk_of m; hub = hub_on m }
+pub leads_by : (old : worlds.World) (m : Machine) → is_some (hub_on old.machine) ≡ false → opened (restarted (disk_of old.machine)) ≡ record { disk = disk_of m; hub = hub_on m }
     → (j : Journal) → Continues (Some (opening_event (hub_on m))) j m → Continues (start_event (view old)) j m
 leads_by old m none is j on = subst (λ (e : Option Event). Continues e j m) (sym (start_event_again (view old) (disk_of m) (hub_on m) none is)) on
 

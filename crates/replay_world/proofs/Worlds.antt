@@ -69,20 +69,20 @@ armed_refused (Stop k image) s = stop_refused (k == 0) (is_some s.stopped) s _ _
 -- ---- openings
 
 pub starts_open : (w : World) → is_some w.hub ≡ true → starts w ≡ None
-starts_open w some = ap (λ (b : Bool). let o = opened w.setup (restarted w.disk) in let s : Option Stepped = Some (unless_stopped (says (record w { disk = o.disk; hub = o.hub }) (opening_text o.hub))) in if b then None else s) some
+starts_open w some = ap (λ (b : Bool). let o = opened (restarted w.disk) in let s : Option Stepped = Some (unless_stopped (says (record w { disk = o.disk; hub = o.hub }) (opening_text o.hub))) in if b then None else s) some
 
-pub starts_again : (w : World) (disk : DiskState) (hub : Option Hub) → is_some w.hub ≡ false → opened w.setup (restarted w.disk) ≡ record { disk = disk; hub = hub } → starts w ≡ Some (unless_stopped (says (record w { disk = disk; hub = hub }) (opening_text hub)))
+pub starts_again : (w : World) (disk : DiskState) (hub : Option Hub) → is_some w.hub ≡ false → opened (restarted w.disk) ≡ record { disk = disk; hub = hub } → starts w ≡ Some (unless_stopped (says (record w { disk = disk; hub = hub }) (opening_text hub)))
 starts_again w disk hub none is =
-    ap (λ (b : Bool). let o = opened w.setup (restarted w.disk) in let s : Option Stepped = Some (unless_stopped (says (record w { disk = o.disk; hub = o.hub }) (opening_text o.hub))) in if b then None else s) none
+    ap (λ (b : Bool). let o = opened (restarted w.disk) in let s : Option Stepped = Some (unless_stopped (says (record w { disk = o.disk; hub = o.hub }) (opening_text o.hub))) in if b then None else s) none
     ∙ ap (λ (o : Opened). let s : Option Stepped = Some (unless_stopped (says (record w { disk = o.disk; hub = o.hub }) (opening_text o.hub))) in s) is
 
 -- what it is to the journal
 pub start_event_open : (w : World) → is_some w.hub ≡ true → start_event w ≡ None
-start_event_open w some = ap (λ (b : Bool). let e : Option Event = Some (opening_event (opened w.setup (restarted w.disk)).hub) in if b then None else e) some
+start_event_open w some = ap (λ (b : Bool). let e : Option Event = Some (opening_event (opened (restarted w.disk)).hub) in if b then None else e) some
 
-pub start_event_again : (w : World) (disk : DiskState) (hub : Option Hub) → is_some w.hub ≡ false → opened w.setup (restarted w.disk) ≡ record { disk = disk; hub = hub } → start_event w ≡ Some (opening_event hub)
+pub start_event_again : (w : World) (disk : DiskState) (hub : Option Hub) → is_some w.hub ≡ false → opened (restarted w.disk) ≡ record { disk = disk; hub = hub } → start_event w ≡ Some (opening_event hub)
 start_event_again w disk hub none is =
-    ap (λ (b : Bool). let e : Option Event = Some (opening_event (opened w.setup (restarted w.disk)).hub) in if b then None else e) none
+    ap (λ (b : Bool). let e : Option Event = Some (opening_event (opened (restarted w.disk)).hub) in if b then None else e) none
     ∙ ap (λ (o : Opened). let e : Option Event = Some (opening_event o.hub) in e) is
 
 -- ---- what is armed

@@ -37,7 +37,7 @@ opening_event None = was_not_opened
 opening_event (Some hub) = was_opened
 
 abbrev pub start_event : World → Option Event
-start_event w = if is_some w.hub then None else Some (opening_event (opened w.setup (restarted w.disk)).hub)
+start_event w = if is_some w.hub then None else Some (opening_event (opened (restarted w.disk)).hub)
 
 -- What batches come to isn't looked at.
 module _ (plain : BatchBody → BatchResult) where

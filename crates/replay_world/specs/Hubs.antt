@@ -1,23 +1,19 @@
 -- A hub over a disk in memory: what it is asked, and how it is opened. Each is a function of what stands on the disk and of what
 -- is armed on it.
-use Rattle.std.specs.Prelude.{ℕ, ◌+◌, nat_le, nat_lt, Bool, not, ◌&&◌, ◌||◌, List, [], length, Option, Some, None, is_some, is_none, option_and_then, if◌then◌else◌}
-use Rattle.std.specs.List.{list_all}
+use Rattle.std.specs.Prelude.{ℕ, ◌&&◌, List, [], Option, Some, None, is_none, if◌then◌else◌}
 use Rattle.base_names.specs.declared.refusal.Refusal.TheVariants.{MEMORY}
 use Rattle.base_names.specs.declared.seat.Seat.{Seat}
 use Rattle.model_data.specs.declared.batch.BatchBody.{BatchBody}
 use Rattle.model_data.specs.declared.batch.BatchRecord.{BatchRecord}
 use Rattle.model_data.specs.declared.batch.BatchResult.{BatchResult}
-use Rattle.rec_format.specs.Format.{only, whole}
-use Rattle.rec_format.specs.Orderly.{is_orderly_record}
-use Rattle.rec_format.specs.Records.{batch_record, record_write}
+use Rattle.rec_format.specs.Records.{record_write}
 use Rattle.disk_model.specs.Memory.{DiskState}
-use Rattle.journal.specs.Plans.{has_header, mount_plan}
+use Rattle.journal.specs.Plans.{mount_plan}
 use Rattle.journal.specs.Records.{end_of, records}
 use Rattle.table_defs.specs.Table.{Table, after, no_rows}
-use Rattle.table_defs.specs.Taken.{first_refusal}
 use Rattle.cluster_defs.specs.Appended.{record_of}
 use Rattle.cluster_defs.specs.Asks.{asked_today}
-use Rattle.cluster_defs.specs.Refusals.{commands_refusal, reserve}
+use Rattle.cluster_defs.specs.Refusals.{commands_refusal}
 use Rattle.cluster_defs.specs.Replies as tells
 use Rattle.cluster_defs.specs.Site.{Site}
 use Rattle.cluster_defs.specs.Store.{Store, Stored, store_refusal, store_step}
@@ -86,30 +82,17 @@ module _ (plain : BatchBody → BatchResult) where
 abbrev pub hub_behind : Table → (end : ℕ) → Hub
 hub_behind t end = record { store = record { table = t; usage = []; journal = end }; doubt = None }
 
--- the records are taken, and there is room for the outcomes of all that goes on
-abbrev pub hub_of : Setup → (end : ℕ) → List BatchRecord → Option Hub
-hub_of setup end rs =
-    let t = after rs no_rows in
-    if is_none (first_refusal rs no_rows) && nat_le (end + reserve t) setup.limits.journal then Some (hub_behind t end) else None
-
--- each body spells a lawful record
-abbrev pub are_spelled : List (List ℕ) → Bool
-are_spelled bodies = list_all (λ body. is_some (option_and_then (only is_orderly_record) (whole batch_record body))) bodies
-
--- a longer file with another header is no journal
-abbrev pub is_journal : (file : List ℕ) → Bool
-is_journal file = not (nat_lt 8 (length file)) || has_header file
-
--- the hub that a file tells
-abbrev pub hub_in : Setup → (file : List ℕ) → Option Hub
-hub_in setup file = if is_journal file && are_spelled (records file) then hub_of setup (end_of file) (read_all (records file)) else None
+-- the hub that a file tells, by the records that its bodies spell
+abbrev pub hub_in : (file : List ℕ) → Hub
+hub_in file = hub_behind (after (read_all (records file)) no_rows) (end_of file)
 
 -- the disk behind an opening, and the hub, where there is one
 pub record Opened : Type 0 where
   pub disk : DiskState
   pub hub : Option Hub
 
-abbrev pub opened : Setup → DiskState → Opened
-opened setup s =
+-- There is one exactly where each call of the mounting is made: what a script leaves on its disk is always its journal.
+abbrev pub opened : DiskState → Opened
+opened s =
     let r = ran (mount_plan s.stored.bytes) s in
-    record { disk = r.disk; hub = if r.all then hub_in setup s.stored.bytes else None }
+    record { disk = r.disk; hub = if r.all then Some (hub_in s.stored.bytes) else None }

@@ -115,7 +115,7 @@ opening_text (Some hub) = numbered (codes "OPENED ") (length hub.store.table.row
 abbrev pub starts : World → Option Stepped
 starts w =
     if is_some w.hub then None
-    else (let o = opened w.setup (restarted w.disk) in
+    else (let o = opened (restarted w.disk) in
     Some (unless_stopped (says (record w { disk = o.disk; hub = o.hub }) (opening_text o.hub))))
 
 -- ---- any step

@@ -23,18 +23,22 @@ hub_on (Lying disk) = None
 abbrev pub view : worlds.World → World
 view w = record { setup = w.setup; disk = disk_of w.machine; hub = hub_on w.machine; sessions = w.sessions.items }
 
--- All that a crash may leave of a disk keeps this journal.
+-- All that a crash may leave of a disk keeps this journal with this limit.
+abbrev pub KeepsWithin : (limit : ℕ) → Journal → DiskState → Type 0
+KeepsWithin limit j s = (image : List ℕ) → left_of s (moment_of s) image → Keeps limit j image
+
+-- with some limit
 abbrev pub KeepsAll : Journal → DiskState → Type 0
-KeepsAll j s = (image : List ℕ) → left_of s (moment_of s) image → Keeps j image
+KeepsAll j s = (limit : ℕ) × KeepsWithin limit j s
 
--- It keeps one.
-abbrev pub KeepsOne : DiskState → Type 0
-KeepsOne s = (j : Journal) × KeepsAll j s
+-- It keeps one with this limit.
+abbrev pub KeepsOne : (limit : ℕ) → DiskState → Type 0
+KeepsOne limit s = (j : Journal) × KeepsWithin limit j s
 
--- A disk that lies keeps a journal; so does that of a hub, always.
-abbrev pub IsReadable : Machine → Type 0
-IsReadable (Running desk) = ⊤
-IsReadable (Lying disk) = KeepsOne disk
+-- A disk that lies keeps a journal with the limit; so does that of a hub, always.
+abbrev pub IsReadable : Setup → Machine → Type 0
+IsReadable setup (Running desk) = ⊤
+IsReadable setup (Lying disk) = KeepsOne setup.limits.journal disk
 
 abbrev pub IsSetUp : Setup → Machine → Type 0
 IsSetUp setup (Running desk) = desk.hub.setup ≡ setup
@@ -44,7 +48,7 @@ IsSetUp setup (Lying disk) = ⊤
 pub record IsSound (setup : Setup) (machine : Machine) : Type 0 where
   pub least : setup.limits.journal ≤ 10 ^ 12
   pub set_up : IsSetUp setup machine
-  pub readable : IsReadable machine
+  pub readable : IsReadable setup machine
 
 -- This is the journal of a machine's hub, with the table of its records, or the one that its disk keeps.
 abbrev pub HasJournal : Journal → Machine → Type 0

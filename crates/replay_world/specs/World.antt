@@ -45,7 +45,7 @@ usual_limits = record { commands = 65536; bytes = 8388608; journal = 1000000000 
 
 -- before the first step: a hub over an empty disk, and no session
 abbrev pub first_world : Limits → World
-first_world limits = let o = opened (setup_of limits) new_disk in record { setup = setup_of limits; disk = o.disk; hub = o.hub; sessions = [] }
+first_world limits = let o = opened new_disk in record { setup = setup_of limits; disk = o.disk; hub = o.hub; sessions = [] }
 
 -- A stop ends all sessions and the hub.
 abbrev pub halted : World → World

@@ -31,10 +31,10 @@ impl Machine {
     /// Opens the file that lies on a disk. Where a call of the disk fails it stays closed.
     pub fn opened(alloc: Global, disk: MemDisk, setup: Setup) -> Result<Machine, NoMemory>
         requires least { setup.limits.journal ≤ 10 ^ 12 }
-        requires keeps { KeepsOne disk }
+        requires keeps { KeepsOne setup.limits.journal disk }
         ensures sound { IfOk result (λ m. IsSound setup m) }
         ensures whole { IfOk result (λ m. (disk_of m).refused ≡ 0) }
-        ensures opened { IfOk result (λ m. opened setup disk ≡ record { disk = disk_of m; hub = hub_on m }) }
+        ensures opened { IfOk result (λ m. opened disk ≡ record { disk = disk_of m; hub = hub_on m }) }
         ensures journal { IfOk result (λ m. (j : Journal) → KeepsAll j disk → Continues (Some (opening_event (hub_on m))) j m) }
     {
         let machine = Machine::mounted(alloc, disk, setup)?;
@@ -47,9 +47,9 @@ impl Machine {
     /// The same, where growths of the disk may have been refused.
     fn mounted(alloc: Global, disk: MemDisk, setup: Setup) -> Result<Machine, NoMemory>
         requires least { setup.limits.journal ≤ 10 ^ 12 }
-        requires keeps { KeepsOne disk }
+        requires keeps { KeepsOne setup.limits.journal disk }
         ensures sound { IfOk result (λ m. IsSound setup m) }
-        ensures opened { IfOk result (λ m. (disk_of m).refused ≡ 0 → opened setup disk ≡ record { disk = disk_of m; hub = hub_on m }) }
+        ensures opened { IfOk result (λ m. (disk_of m).refused ≡ 0 → opened disk ≡ record { disk = disk_of m; hub = hub_on m }) }
         ensures journal { IfOk result (λ m. (j : Journal) → KeepsAll j disk → Continues (Some (opening_event (hub_on m))) j m) }
     {
         a_mounting_keeps_the_journal::<MemDisk>();
@@ -68,10 +68,10 @@ impl Machine {
     /// Starts the machine again, and opens its file.
     pub fn started(alloc: Global, disk: MemDisk, setup: Setup) -> Result<Machine, NoMemory>
         requires least { setup.limits.journal ≤ 10 ^ 12 }
-        requires keeps { KeepsOne disk }
+        requires keeps { KeepsOne setup.limits.journal disk }
         ensures sound { IfOk result (λ m. IsSound setup m) }
         ensures whole { IfOk result (λ m. (disk_of m).refused ≡ 0) }
-        ensures opened { IfOk result (λ m. opened setup (restarted disk) ≡ record { disk = disk_of m; hub = hub_on m }) }
+        ensures opened { IfOk result (λ m. opened (restarted disk) ≡ record { disk = disk_of m; hub = hub_on m }) }
         ensures journal { IfOk result (λ m. (j : Journal) → KeepsAll j disk → Continues (Some (opening_event (hub_on m))) j m) }
     {
         let mut disk = disk;
@@ -81,9 +81,8 @@ impl Machine {
 
     /// The disk back.
     pub fn into_disk(self) -> MemDisk
-        requires { IsReadable self }
         ensures disk { result ≡ disk_of self }
-        ensures keeps { KeepsOne result }
+        ensures keeps { (setup : setups.Setup) → IsSetUp setup self → IsReadable setup self → KeepsOne setup.limits.journal result }
         ensures journal { (j : Journal) → HasJournal j self → KeepsAll j result }
     {
         match self {
@@ -95,11 +94,10 @@ impl Machine {
     /// Arms a failure or a stop.
     pub fn arm(&mut self, alloc: Global, arm: Arm) -> Result<(), NoMemory>
         requires lawful { IsLawfulArm arm }
-        requires readable { IsReadable self.old }
         ensures disk { OnOk result (disk_of self.new ≡ armed arm (disk_of self.old)) }
         ensures whole { OnOk result ((disk_of self.new).refused ≡ (disk_of self.old).refused) }
         ensures hub { hub_on self.new ≡ hub_on self.old }
-        ensures readable { IsReadable self.new }
+        ensures readable { (setup : setups.Setup) → IsReadable setup self.old → IsReadable setup self.new }
         ensures journal { (j : Journal) → HasJournal j self.old → HasJournal j self.new }
         ensures set_up { (setup : setups.Setup) → IsSetUp setup self.old → IsSetUp setup self.new }
     {

@@ -36,7 +36,8 @@ fn setup_of(limits: Limits) -> Setup
 impl World {
     /// A machine with an open file on an empty disk, and no session.
     pub fn new(alloc: Global, limits: Limits) -> Result<World, NoMemory>
-        requires { limits.journal ≤ 10 ^ 12 }
+        requires least { limits.journal ≤ 10 ^ 12 }
+        requires room { 8 ≤ limits.journal }
         ensures whole { IfOk result (λ w. IsWhole w) }
         ensures first { IfOk result (λ w. view w ≡ first_world limits) }
         ensures journal { IfOk result (λ w. HasJournal none_yet w.machine) }

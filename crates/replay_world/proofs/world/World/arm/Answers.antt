@@ -8,7 +8,7 @@ use Rattle.replay_world.specs.World.{World}
 pub returns-clause-took : goal.returns-clause-took
 returns-clause-took c = (
   record {
-    sound = record { least = c.requires.whole.sound.least; set_up = c.arm.ensures.set_up c.args.self.setup c.requires.whole.sound.set_up; readable = c.arm.ensures.readable };
+    sound = record { least = c.requires.whole.sound.least; set_up = c.arm.ensures.set_up c.args.self.setup c.requires.whole.sound.set_up; readable = c.arm.ensures.readable c.args.self.setup c.requires.whole.sound.readable };
     whole = c.in_ok-arm.ensures.whole ∙ c.requires.whole.whole;
   },
   (

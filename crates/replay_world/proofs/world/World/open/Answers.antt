@@ -15,11 +15,11 @@ returns-then-is_running-clause-journal c =
 pub returns-then-is_stopped-clause-journal : goal.returns-then-is_stopped-clause-journal
 returns-then-is_stopped-clause-journal c = IfOk-weaker c.halt.result _ _ (λ r keeps j has.
     let on = leads_by c.args.self c.in_ok-machine.machine (sym c.is_running.ensures ∙ c.if-is_running.false)
-    (ap (λ (d : DiskState). opened c.args.self.setup (restarted d)) (sym c.into_disk.ensures.disk) ∙ c.in_ok-machine.ensures.opened)
+    (ap (λ (d : DiskState). opened (restarted d)) (sym c.into_disk.ensures.disk) ∙ c.in_ok-machine.ensures.opened)
     j (c.in_ok-machine.ensures.journal j (c.into_disk.ensures.journal j has)) in
     (on.0, on.1, keeps on.0 on.2)) c.halt.ensures.journal
 
 pub returns-clause-journal : goal.returns-clause-journal
 returns-clause-journal c = λ j has. leads_by c.args.self c.in_ok-machine.machine (sym c.is_running.ensures ∙ c.if-is_running.false)
-    (ap (λ (d : DiskState). opened c.args.self.setup (restarted d)) (sym c.into_disk.ensures.disk) ∙ c.in_ok-machine.ensures.opened)
+    (ap (λ (d : DiskState). opened (restarted d)) (sym c.into_disk.ensures.disk) ∙ c.in_ok-machine.ensures.opened)
     j (c.in_ok-machine.ensures.journal j (c.into_disk.ensures.journal j has))

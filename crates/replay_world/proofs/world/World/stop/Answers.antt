@@ -4,7 +4,7 @@ use Rattle.replay_world.proofs.world.World.stop.Goals as goal
 
 pub halt-requires : goal.halt-requires
 halt-requires c = record {
-  sound = record { least = c.requires.sound.least; set_up = c.arm.ensures.set_up c.args.self.setup c.requires.sound.set_up; readable = c.arm.ensures.readable };
+  sound = record { least = c.requires.sound.least; set_up = c.arm.ensures.set_up c.args.self.setup c.requires.sound.set_up; readable = c.arm.ensures.readable c.args.self.setup c.requires.sound.readable };
   whole = c.in_ok-arm.ensures.whole ∙ c.requires.whole;
 }
 
